@@ -1,0 +1,16 @@
+pub mod Lists
+pub mod Text
+pub mod Search
+pub mod Forms
+pub mod Schema
+pub mod Graph
+pub mod Query
+pub mod Tree
+pub mod World
+pub mod Valid
+pub mod Eval
+pub mod Sizing
+pub mod Answer
+pub mod Contract
+pub mod Samples
+pub mod Doubling

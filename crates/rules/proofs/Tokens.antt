@@ -1,0 +1,223 @@
+-- Theorem 8: every token of an accepted response is a value, a label or one of the five marks, and below 2^32. Assumes nothing.
+use Prim.Native.Nat.{ℕ, zero, suc, _+_, _*_, _^_, _≤_, _<_, compare, Ordering, Ordering·lt, Ordering·eq, Ordering·gt}
+use native.Mathlib.Omega.{arith}
+use mathlib.Core.Path.{_≡_, refl, sym, ap, _∙_, subst}
+use mathlib.Core.Bool.{Bool, true, false, _&&_, not, true≢false, false≢true}
+use mathlib.Core.List.{List, [], _∷_, _++_, map, List·Memᴰ, List·Memᴰ·head, List·Memᴰ·tail, List·Memᴰ·not-nil, List·Memᴰ·cases-cons}
+use mathlib.Core.Logic.{_⊎_, inl, inr}
+use mathlib.Core.Option.{none}
+use lib.Dec.{eqb, leb, ltb}
+use lib.ListN.{length, getD, drop}
+use borrow.Author.Tests.{ltb-false, leb-true, not-false}
+use Rattle.rules.specs.Lists.{those, keepIf, all, isEmpty, each}
+use Rattle.rules.specs.Text.{Line, lines, fields, isDigit, decimal, leadingZero, largest, isNumber, Row, rowOf, row, rows, at, valuesOf, F}
+use Rattle.rules.specs.Search.{firstLine, whole, testEach}
+use Rattle.rules.specs.Forms.{Form, formTests, lineTests, fieldTests, breaks, textForm, longest, graphForms}
+use Rattle.rules.specs.Schema.{is}
+use Rattle.rules.specs.Graph.{Label, propertyOf}
+use Rattle.rules.specs.Query.{shownAs, check33}
+use Rattle.rules.specs.Tree.{Asks, field, on, Entry, Forest, none as noEntry, node, asksOf, entriesFrom, siblings}
+use Rattle.rules.specs.World.{World, Shape, scalar, list, single, Found, nothing, one, many, foundIn}
+use Rattle.rules.specs.Eval.{label, openObject, closeObject, openList, closeList, null, object, listed, value, objectAt, answer, onlyIf, shown, eval}
+use Rattle.rules.specs.Answer.{Texts, schemaRows, graphRows, queryRows, worldOf, rootOf, treeOf, response, checks}
+use Rattle.rules.specs.Contract.{Passed}
+use Rattle.rules.proofs.Bools.{and-true-left, and-true-right}
+use Rattle.rules.proofs.Clean.{Silent, silent-left, Calm, Each, each-silent, clean, clean-each, or-else-none}
+
+pub data Token (t : ℕ) : Type 0 where
+  isValue : t ≤ largest → Token t
+  isLabel : (l : ℕ) → l ≤ 255 → t ≡ label l → Token t
+  isMark : List·Memᴰ t (openObject ∷ closeObject ∷ openList ∷ closeList ∷ null ∷ []) → Token t
+
+-- ---- lists of which every element has a property
+
+each-append : {A : Type 0} (P : A → Type 0) (xs ys : List A) → Each P xs → Each P ys → Each P (xs ++ ys)
+each-append P [] ys a b = b
+each-append P (x ∷ xs) ys a b = (a .0, each-append P xs ys (a .1) b)
+
+each-map : {A : Type 0} (P Q : A → Type 0) → ((x : A) → P x → Q x) → (xs : List A) → Each P xs → Each Q xs
+each-map P Q f [] a = tt
+each-map P Q f (x ∷ xs) a = (f x (a .0), each-map P Q f xs (a .1))
+
+each-drop : {A : Type 0} (P : A → Type 0) (n : ℕ) (xs : List A) → Each P xs → Each P (drop n xs)
+each-drop P zero xs a = a
+each-drop P (suc n) [] a = tt
+each-drop P (suc n) (x ∷ xs) a = each-drop P n xs (a .1)
+
+each-those : {A : Type 0} (P : A → Type 0) (p : A → Bool) (xs : List A) → Each P xs → Each P (those p xs)
+each-those P p [] a = tt
+each-those P p (x ∷ xs) a = go (each-those P p xs (a .1)) (p x)
+  where
+    go : Each P (those p xs) → (b : Bool) → Each P (keepIf b x (those p xs))
+    go ih true = (a .0, ih)
+    go ih false = ih
+
+-- ---- a sound text's numbers are at most 999,999,999
+
+abbrev pub Small : List ℕ → Type 0
+Small ns = Each (λ n. n ≤ largest) ns
+
+number-small : (s : List ℕ) → isNumber s ≡ true → decimal 0 s ≤ largest
+number-small s h =
+    let r1 = and-true-right (not (isEmpty s)) (all isDigit s && (not (leadingZero s) && leb (decimal 0 s) largest)) h in
+    let r2 = and-true-right (all isDigit s) (not (leadingZero s) && leb (decimal 0 s) largest) r1 in
+    leb-true (decimal 0 s) largest (and-true-right (not (leadingZero s)) (leb (decimal 0 s) largest) r2)
+
+numbers-small : (ns : List (List ℕ)) → Each (λ n. not (isNumber n) ≡ false) ns → Small (map (decimal 0) ns)
+numbers-small [] e = tt
+numbers-small (n ∷ ns) e = (number-small n (not-false (isNumber n) (e .0)), numbers-small ns (e .1))
+
+fields-small : (fs : List Form) (ss : List (List ℕ)) → Silent (fieldTests fs ss) → Small (rowOf ss .numbers)
+fields-small fs [] h = tt
+fields-small fs (l ∷ ns) h =
+    let numbers = testEach (λ n. not (isNumber n)) 1 2 ns in
+    numbers-small ns (each-silent (λ n. not (isNumber n)) 1 2 ns (silent-left numbers (formTests fs (rowOf (l ∷ ns))) h))
+
+bytes-small : (fs : List Form) (s : List ℕ) → Silent (lineTests fs s) → Small (rowOf (fields s) .numbers)
+bytes-small fs [] h = absurd (true≢false (h .0))
+bytes-small fs (b ∷ s) h = fields-small fs (fields (b ∷ s)) h
+
+line-small : (fs : List Form) (before : List Line) (l : Line) (after : List Line) → Calm (breaks fs before l after) → Small (row l .numbers)
+line-small fs before l after c = bytes-small fs (l .bytes) ((c .0) refl .1)
+
+rows-small : (ls : List Line) → Each (λ l. Small (row l .numbers)) ls → Each (λ r. Small (r .numbers)) (map row ls)
+rows-small [] e = tt
+rows-small (l ∷ ls) e = (e .0, rows-small ls (e .1))
+
+pub text-small : (fs : List Form) (s : List ℕ) → textForm fs s ≡ none → Each (λ r. Small (r .numbers)) (rows s)
+text-small fs s h =
+    rows-small (lines s)
+    (clean-each (breaks fs) (λ l. Small (row l .numbers)) (line-small fs) [] (lines s)
+    (clean (breaks fs) [] 1 (lines s) (or-else-none (whole (ltb longest (length s))) (firstLine (breaks fs) (lines s)) h)))
+
+-- ---- so are the values that lookups find
+
+abbrev SmallFound : Found → Type 0
+SmallFound nothing = Unit {0}
+SmallFound (one x) = x ≤ largest
+SmallFound (many xs) = Small xs
+
+get-small : (ns : List ℕ) → Small ns → getD ns 0 0 ≤ largest
+get-small [] e = omega arith
+get-small (n ∷ ns) e = e .0
+
+found-small : (ps : List Row) → Each (λ r. Small (r .numbers)) ps → SmallFound (foundIn ps)
+found-small [] e = tt
+found-small (p ∷ ps) e = go (eqb (at p 2) 1) refl
+  where
+    vs : Small (valuesOf p)
+    vs = each-drop (λ n. n ≤ largest) (4 + 2 * at p 3) (p .numbers) (e .0)
+
+    go : (b : Bool) → eqb (at p 2) 1 ≡ b → SmallFound (foundIn (p ∷ ps))
+    go true q = rw (q, foundIn) vs
+    go false q = rw (q, foundIn) (get-small (valuesOf p) vs)
+
+-- ---- 33: labels are at most 255
+
+abbrev Labelled : Asks → Type 0
+Labelled (field n l) = n ≤ 255
+Labelled (on t) = Unit {0}
+
+abbrev LabelledTree : Forest → Type 0
+LabelledTree noEntry = Unit {0}
+LabelledTree (node e kids rest) = Labelled (e .asks) × LabelledTree kids × LabelledTree rest
+
+row-labelled : (s before : List Row) (r : Row) (after : List Row) → Calm (check33 s before r after) → Labelled (asksOf r)
+row-labelled s before r after c = go (is F r) refl
+  where
+    go : (b : Bool) → is F r ≡ b → Labelled (asksOf r)
+    go true q = rw (q, asksOf) (ltb-false 255 (shownAs r) ((c .0) q .0))
+    go false q = rw (q, asksOf) tt
+
+entries-labelled : (i : ℕ) (q : List Row) → Each (λ r. Labelled (asksOf r)) q → Each (λ e. Labelled (e .asks)) (entriesFrom i q)
+entries-labelled i [] e = tt
+entries-labelled i (r ∷ rs) e = (e .0, entries-labelled (suc i) rs (e .1))
+
+siblings-labelled : (es : List Entry) (d : ℕ) → Each (λ e. Labelled (e .asks)) es → LabelledTree (siblings es d)
+siblings-labelled [] d h = tt
+siblings-labelled (e ∷ es) d h = go (siblings-labelled es (suc d) (h .1)) (siblings-labelled es d (h .1)) (compare (e .level) d) refl
+  where
+    go : LabelledTree (siblings es (suc d)) → LabelledTree (siblings es d) → (o : Ordering) → compare (e .level) d ≡ o
+        → LabelledTree (siblings (e ∷ es) d)
+    go ik ir Ordering·lt q = rw (q, siblings) tt
+    go ik ir Ordering·eq q = rw (q, siblings) (h .0, ik, ir)
+    go ik ir Ordering·gt q = rw (q, siblings) ir
+
+-- ---- the tokens of a response
+
+abbrev Tokens : List ℕ → Type 0
+Tokens ts = Each Token ts
+
+object-tokens : (r : List ℕ) → Tokens r → Tokens (object r)
+object-tokens r h =
+    (isMark (List·Memᴰ·head refl), each-append Token r (closeObject ∷ []) h (isMark (List·Memᴰ·tail (List·Memᴰ·head refl)), tt))
+
+listed-tokens : (r : List ℕ) → Tokens r → Tokens (listed r)
+listed-tokens r h = (
+  isMark (List·Memᴰ·tail (List·Memᴰ·tail (List·Memᴰ·head refl))),
+  each-append Token r (closeList ∷ []) h (isMark (List·Memᴰ·tail (List·Memᴰ·tail (List·Memᴰ·tail (List·Memᴰ·head refl)))), tt),
+)
+
+null-tokens : Tokens (null ∷ [])
+null-tokens = (isMark (List·Memᴰ·tail (List·Memᴰ·tail (List·Memᴰ·tail (List·Memᴰ·tail (List·Memᴰ·head refl))))), tt)
+
+value-tokens : (f : Found) → SmallFound f → Tokens (value f)
+value-tokens nothing h = null-tokens
+value-tokens (one x) h = (isValue h, tt)
+value-tokens (many xs) h = listed-tokens xs (each-map (λ n. n ≤ largest) Token (λ n k. isValue k) xs h)
+
+objects-tokens : (below : ℕ → List ℕ) → ((v : ℕ) → Tokens (below v)) → (vs : List ℕ) → Tokens (each (λ v. object (below v)) vs)
+objects-tokens below h [] = tt
+objects-tokens below h (v ∷ vs) =
+    each-append Token (object (below v)) (each (λ x. object (below x)) vs) (object-tokens (below v) (h v)) (objects-tokens below h vs)
+
+answer-tokens : (s : Shape) (f : Found) (vs : List ℕ) (below : ℕ → List ℕ) → SmallFound f → ((v : ℕ) → Tokens (below v))
+    → Tokens (answer s f vs below)
+answer-tokens scalar f vs below k h = value-tokens f k
+answer-tokens list f vs below k h = listed-tokens (each (λ v. object (below v)) vs) (objects-tokens below h vs)
+answer-tokens single f [] below k h = null-tokens
+answer-tokens single f (v ∷ vs) below k h = object-tokens (below v) (h v)
+
+only-tokens : (b : Bool) (below : ℕ → List ℕ) (u : ℕ) → ((v : ℕ) → Tokens (below v)) → Tokens (onlyIf b below u)
+only-tokens true below u h = h u
+only-tokens false below u h = tt
+
+module _ (w : World) (small : (u : ℕ) (l : Label) → SmallFound ((w .lookup) u l)) where
+  shown-tokens : (a : Asks) (u : ℕ) (below : ℕ → List ℕ) → Labelled a → ((v : ℕ) → Tokens (below v)) → Tokens (shown w a u below)
+  shown-tokens (field n l) u below k h =
+      (isLabel n k refl, answer-tokens ((w .shape) u (l .field)) ((w .lookup) u l) ((w .targets) u l) below (small u l) h)
+  shown-tokens (on t) u below k h = only-tokens ((w .holds) u t) below u h
+
+  eval-tokens : (q : Forest) → LabelledTree q → (u : ℕ) → Tokens (eval w q u)
+  eval-tokens noEntry h u = tt
+  eval-tokens (node e kids rest) h u =
+      each-append Token (shown w (e .asks) u (λ v. eval w kids v)) (eval w rest u)
+      (shown-tokens (e .asks) u (λ v. eval w kids v) (h .0) (λ v. eval-tokens kids (h .1) v))
+      (eval-tokens rest (h .2) u)
+
+pub response-tokens : (short : Bool) (x : Texts) → Passed (checks short x) → Each Token (response x)
+response-tokens short x p =
+    let s = schemaRows x in
+    let g = graphRows x in
+    let q = queryRows x in
+    let labels = clean-each (check33 s) (λ r. Labelled (asksOf r)) (row-labelled s) [] q (clean (check33 s) [] 1 q (p 33)) in
+    eval-tokens (worldOf x)
+    (λ u l. found-small (those (propertyOf u l) g) (each-those (λ r. Small (r .numbers)) (propertyOf u l) g (text-small graphForms (x .graph) (p 20))))
+    (treeOf x)
+    (siblings-labelled (entriesFrom 0 q) 0 (entries-labelled 0 q labels))
+    (rootOf x)
+
+-- ---- below 2^32
+
+member-below : (k t : ℕ) (ms : List ℕ) → Each (λ m. m < k) ms → List·Memᴰ t ms → t < k
+member-below k t [] e m = absurd (List·Memᴰ·not-nil m)
+member-below k t (n ∷ ms) e m = go (λ l. member-below k t ms (e .1) l) (List·Memᴰ·cases-cons m)
+  where
+    go : (List·Memᴰ t ms → t < k) → (t ≡ n) ⊎ List·Memᴰ t ms → t < k
+    go ih (inl q) = omega (arith, e .0)
+    go ih (inr l) = ih l
+
+pub token-below : (t : ℕ) → Token t → t < 2 ^ 32
+token-below t (isValue h) = omega arith
+token-below t (isLabel l h e) = omega arith
+token-below t (isMark m) = member-below (2 ^ 32) t (openObject ∷ closeObject ∷ openList ∷ closeList ∷ null ∷ []) (omega arith) m

@@ -87,5 +87,5 @@ children-sum x f n l row v h object =
     ∙ ap (λ (y : ℕ). weighed (λ u. times y (next w (field n l) u)) 0 row) (omega arith)
     ∙ ap (λ (k : ℕ → ℕ). weighed k 0 row)
     (fun-ext (λ u. ap (times v)
-      (onward-all (isScalar s (fieldType s (typeOf g u) (l .field))) (isList s (typeOf g u) (l .field)) ((w .targets) u l) (object u) ((f .single) u l))))
+    (onward-all (isScalar s (fieldType s (typeOf g u) (l .field))) (isList s (typeOf g u) (l .field)) ((w .targets) u l) (object u) ((f .single) u l))))
     ∙ all-edges l v row g

@@ -1,9 +1,11 @@
 -- A search that finds nothing: no test of any line is broken, and the other way round. Assumes nothing.
-use Prim.Native.Nat.{ℕ, suc, _+_}
+use Prim.Native.Nat.{ℕ, zero, suc, _+_}
 use mathlib.Core.Path.{_≡_, refl}
 use mathlib.Core.Bool.{Bool, true, false, false≢true}
 use mathlib.Core.List.{List, [], _∷_, _++_}
 use mathlib.Core.Option.{Option, none, some}
+use lib.ListN.{drop}
+use Rattle.rules.specs.Lists.{those, keepIf}
 use Rattle.rules.specs.Search.{Test, _#_, testEach, Tests, worse, faultIf, faultOf, fault, Check, firstFrom, whole, orElse}
 use Rattle.rules.specs.declared.Spot.{Spot}
 use Rattle.rules.proofs.Bools.{some-none}
@@ -87,6 +89,27 @@ module _ {A : Type 0} where
   abbrev pub Each : (A → Type 0) → List A → Type 0
   Each P [] = Unit {0}
   Each P (r ∷ rs) = P r × Each P rs
+
+  pub each-map : (P Q : A → Type 0) → ((x : A) → P x → Q x) → (xs : List A) → Each P xs → Each Q xs
+  each-map P Q f [] e = tt
+  each-map P Q f (x ∷ xs) e = (f x (e .0), each-map P Q f xs (e .1))
+
+  pub each-append : (P : A → Type 0) (xs ys : List A) → Each P xs → Each P ys → Each P (xs ++ ys)
+  each-append P [] ys a b = b
+  each-append P (x ∷ xs) ys a b = (a .0, each-append P xs ys (a .1) b)
+
+  pub each-drop : (P : A → Type 0) (n : ℕ) (xs : List A) → Each P xs → Each P (drop n xs)
+  each-drop P zero xs a = a
+  each-drop P (suc n) [] a = tt
+  each-drop P (suc n) (x ∷ xs) a = each-drop P n xs (a .1)
+
+  pub each-those : (P : A → Type 0) (p : A → Bool) (xs : List A) → Each P xs → Each P (those p xs)
+  each-those P p [] a = tt
+  each-those P p (x ∷ xs) a = go (each-those P p xs (a .1)) (p x)
+    where
+      go : Each P (those p xs) → (b : Bool) → Each P (keepIf b x (those p xs))
+      go ih true = (a .0, ih)
+      go ih false = ih
 
   pub each-silent : (bad : A → Bool) (step f : ℕ) (xs : List A) → Silent (testEach bad step f xs) → Each (λ x. bad x ≡ false) xs
   each-silent bad step f [] s = tt

@@ -57,10 +57,6 @@ doubled-size n = topped (length (eval people (alpha n) 1)) _ (2 ^ n) (ap length 
 names : List ℕ → ℕ
 names r = times alice r
 
-names-append : (xs ys : List ℕ) → names (xs ++ ys) ≡ names xs + names ys
-unfolding names
-names-append xs ys = sum-append _ xs ys
-
 twice-names : (r : List ℕ) → names (twice r) ≡ 2 * names r
 unfolding names
 twice-names r = simp (sum-append (λ y. oneIf (eqb alice y))) (omega arith)

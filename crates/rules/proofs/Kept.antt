@@ -41,7 +41,7 @@ module _ (f : ℕ → Bool) where
   at-place v i zero (m ∷ ms) p =
       let e : i ≡ v = omega arith in
       let h : m * times v (stay (f i) i) ≡ cond (f v) m 0 =
-          subst (λ (x : ℕ). m * times v (stay (f x) x) ≡ cond (f v) m 0) (sym e) (stay-same (f v) m v) in
+      subst (λ (x : ℕ). m * times v (stay (f x) x) ≡ cond (f v) m 0) (sym e) (stay-same (f v) m v) in
       omega (arith, past v (suc i) ms (omega arith))
   at-place v i (suc k) (m ∷ ms) p =
       let r = at-place v (suc i) k ms (omega arith) in

@@ -30,8 +30,8 @@ pairs-same (p ∷ a) = and-true (eq-eqb (p .arg .0) (p .arg .0) refl) (and-true 
 pub same-label : (a b : Label) → (sameLabel a b ≡ true) ↔ (a ≡ b)
 same-label a b = (
   λ h.
-    let ef = eqb-true (a .field .0) (b .field .0) (and-true-left (eqb (a .field .0) (b .field .0)) (samePairs (a .args) (b .args)) h) in
-    let ep = same-pairs (a .args) (b .args) (and-true-right (eqb (a .field .0) (b .field .0)) (samePairs (a .args) (b .args)) h) in
-    λ i. record { field = record { 0 = ef i }; args = ep i },
+      let ef = eqb-true (a .field .0) (b .field .0) (and-true-left (eqb (a .field .0) (b .field .0)) (samePairs (a .args) (b .args)) h) in
+      let ep = same-pairs (a .args) (b .args) (and-true-right (eqb (a .field .0) (b .field .0)) (samePairs (a .args) (b .args)) h) in
+      λ i. record { field = record { 0 = ef i }; args = ep i },
   λ e. subst (λ (x : Label). sameLabel a x ≡ true) e (and-true (eq-eqb (a .field .0) (a .field .0) refl) (pairs-same (a .args))),
 )

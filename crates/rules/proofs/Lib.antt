@@ -1,7 +1,10 @@
-pub mod Samples
 pub mod Bools
 pub mod Clean
 pub mod Places
+pub mod Parting
+pub mod Sound
+pub mod Labels
+pub mod Samples
 pub mod Sums
 pub mod Size
 pub mod Visited
@@ -12,13 +15,12 @@ pub mod Walk
 pub mod Onward
 pub mod Lines
 pub mod Kept
-pub mod Labels
 pub mod Single
 pub mod Facts
 pub mod Accepted
+pub mod Children
 pub mod Outcomes
 pub mod Unique
-pub mod Children
-pub mod Parting
 pub mod Tokens
+pub mod Conforms
 pub mod Doubles

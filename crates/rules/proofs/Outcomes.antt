@@ -10,9 +10,9 @@ use mathlib.Core.Option.{Option, none, some}
 use lib.Dec.{ltb}
 use lib.ListN.{length}
 use borrow.Author.Tests.{ltb-false, lt-ltb, le-ltb}
-use Rattle.rules.specs.Search.{whole}
+use Rattle.rules.specs.Search.{whole, spot}
 use Rattle.rules.specs.Sizing.{most, cap}
-use Rattle.rules.specs.Answer.{Texts, schemaRows, graphRows, worldOf, rootOf, treeOf, response, visitsIn, checks, answerChecks, largestRoom, verdict, outcome, refused, told, sized, space, fitted, answered}
+use Rattle.rules.specs.Answer.{Texts, schemaRows, graphRows, worldOf, rootOf, treeOf, response, visitsIn, Numbered, checks, answerChecks, largestRoom, verdict, outcome, refused, told, sized, space, fitted, answered}
 use Rattle.rules.specs.Contract.{placeOf, Passed, Least}
 use Rattle.rules.specs.declared.Spot.{Spot}
 use Rattle.rules.specs.declared.Outcome.{Outcome}
@@ -184,3 +184,28 @@ module _ (short : Bool) (x : Texts) (room : ℕ) (buffer : List ℕ) where
       go h (refuses n p l above e) =
           let fifty : n ≡ 50 = sym (ap (λ (o : Outcome). o .number) e) ∙ h in
           absurd (some-none (sym (subst (λ (k : ℕ). placeOf k (answerChecks short x room) ≡ some p) fifty (l .offended))))
+
+  -- ---- by sizing: what the code does
+
+  refused-fits : (k n : ℕ) (p : Spot) → refused n p ≡ fitted k (refused n p)
+  refused-fits k n p = rw (le-ltb k 0 (omega arith), fitted)
+
+  fitted-verdict : (k : ℕ) (o : Outcome) (cs : List Numbered) → verdict refused (fitted k o) cs ≡ fitted k (verdict refused o cs)
+  fitted-verdict k o [] = refl
+  fitted-verdict k o (c ∷ cs) = go (fitted-verdict k o cs) (c .place) refl
+    where
+      go : verdict refused (fitted k o) cs ≡ fitted k (verdict refused o cs) → (q : Option Spot) → c .place ≡ q
+          → verdict refused (fitted k o) (c ∷ cs) ≡ fitted k (verdict refused o (c ∷ cs))
+      go ih none e = rw (e, verdict) ih
+      go ih (some p) e = rw (e, verdict) (refused-fits k (c .number) p)
+
+  -- A room that is not above 16,384 is answered by the outcome of sizing, held against the room.
+  pub answered-by-sizing : room ≤ largestRoom → answered short x room buffer ≡ fitted (space room buffer) (sized short x)
+  answered-by-sizing h =
+      let small : ltb largestRoom room ≡ false = le-ltb largestRoom room h in
+      let first : verdict refused (fitted (space room buffer) (told x)) (answerChecks short x room)
+      ≡ verdict refused (fitted (space room buffer) (told x)) (checks short x) = rw (ap whole small, verdict) in
+      first ∙ fitted-verdict (space room buffer) (told x) (checks short x)
+
+  pub answered-too-large-room : largestRoom < room → answered short x room buffer ≡ refused 1 (spot 0 0)
+  answered-too-large-room h = rw (ap whole (lt-ltb largestRoom room h), verdict)

@@ -1,17 +1,13 @@
 -- Theorem 8: "One record a line, fields parted by one tab, each line ended by one newline": nothing of a text is lost or added. Assumes nothing.
-use Prim.Native.Nat.{ℕ, suc}
+use Prim.Native.Nat.{ℕ}
 use mathlib.Core.Path.{_≡_, refl, sym, ap, _∙_}
-use mathlib.Core.Bool.{Bool, true, false, not, false≢true}
-use mathlib.Core.List.{List, [], _∷_, _++_, map}
-use mathlib.Core.Option.{none}
-use lib.Dec.{eqb, ltb}
-use lib.ListN.{length, length-map}
-use borrow.Author.Tests.{eqb-true, not-false}
+use mathlib.Core.Bool.{Bool, true, false, false≢true}
+use mathlib.Core.List.{List, [], _∷_, _++_}
+use lib.Dec.{eqb}
+use borrow.Author.Tests.{eqb-true}
 use Rattle.rules.specs.Lists.{each}
-use Rattle.rules.specs.Text.{Line, onFirstLine, lines, onFirstField, fields, tab, newline, Row, row, rows}
-use Rattle.rules.specs.Search.{firstLine, whole}
-use Rattle.rules.specs.Forms.{Form, breaks, textForm, longest}
-use Rattle.rules.proofs.Clean.{Calm, Each, clean, clean-each, or-else-none}
+use Rattle.rules.specs.Text.{Line, onFirstLine, lines, onFirstField, fields, tab, newline}
+use Rattle.rules.proofs.Clean.{Each}
 
 -- ---- lines
 
@@ -42,7 +38,7 @@ parted [] = []
 parted (f ∷ []) = f
 parted (f ∷ g ∷ fs) = f ++ (tab ∷ parted (g ∷ fs))
 
-abbrev Filled : List (List ℕ) → Type 0
+abbrev pub Filled : List (List ℕ) → Type 0
 Filled [] = ⊥
 Filled (f ∷ fs) = Unit {0}
 
@@ -50,7 +46,7 @@ first-filled : (b : ℕ) (fs : List (List ℕ)) → Filled (onFirstField b fs)
 first-filled b [] = tt
 first-filled b (f ∷ fs) = tt
 
-fields-filled : (s : List ℕ) → Filled (fields s)
+pub fields-filled : (s : List ℕ) → Filled (fields s)
 fields-filled [] = tt
 fields-filled (b ∷ s) = go (eqb b tab) refl
   where
@@ -75,20 +71,3 @@ line-is-fields (b ∷ s) = go (line-is-fields s) (eqb b tab) refl
     go : parted (fields s) ≡ s → (t : Bool) → eqb b tab ≡ t → parted (fields (b ∷ s)) ≡ b ∷ s
     go ih true q = rw (q, fields) (part-tab s (fields s) (fields-filled s) ih ∙ ap (λ (n : ℕ). n ∷ s) (sym (eqb-true b tab q)))
     go ih false q = rw (q, fields) (part-first b s (fields s) ih)
-
--- ---- of a sound text
-
-line-ended : (fs : List Form) (before : List Line) (l : Line) (after : List Line) → Calm (breaks fs before l after) → l .ended ≡ true
-line-ended fs before l after c = not-false (l .ended) ((c .0) refl .0)
-
-module _ (fs : List Form) (s : List ℕ) (sound : textForm fs s ≡ none) where
-  -- its lines, each with its newline, are the text,
-  pub text-is-lines : joined (lines s) ≡ s
-  text-is-lines =
-      lines-joined s
-      (clean-each (breaks fs) (λ l. l .ended ≡ true) (line-ended fs) [] (lines s)
-      (clean (breaks fs) [] 1 (lines s) (or-else-none (whole (ltb longest (length s))) (firstLine (breaks fs) (lines s)) sound)))
-
-  -- and it has one row for each of them
-  pub row-for-each-line : length (rows s) ≡ length (lines s)
-  row-for-each-line = length-map (lines s) row

@@ -39,7 +39,7 @@ module _ {A : Type 0} (check : Check A) where
       go ih none e =
           let f = ih (rw (e, firstFrom) at h) in
           let clear : (j : ℕ) → j < suc (f .place) → from before (r ∷ rs) j ≡ none =
-              elim [ zero ↦ λ _. e | suc j ↦ λ k. (f .clear) j (omega arith) ] in
+          elim [ zero ↦ λ _. e | suc j ↦ λ k. (f .clear) j (omega arith) ] in
           record { place = suc (f .place); line = omega (arith, f .line); offends = f .offends; clear = clear }
       go ih (some f) e =
           let q = Option·some-injective (spot n f) p (rw (e, firstFrom) at h) in
@@ -78,9 +78,9 @@ module _ {A : Type 0} (check : Check A) where
   pub place-is-first : (rs : List A) (p : Spot) → (firstLine check rs ≡ some p) ↔ FirstLine check rs p
   place-is-first rs p = (
     λ h. let f = found [] 1 rs p h in
-      record { before = f .place; line = omega (arith, f .line); offends = f .offends; none-earlier = f .clear },
+        record { before = f .place; line = omega (arith, f .line); offends = f .offends; none-earlier = f .clear },
     λ f. finds [] 1 rs (f .before) (p .field) (f .offends) (f .none-earlier)
-      ∙ ap (λ (x : ℕ). some (spot x (p .field))) (omega (arith, f .line)),
+        ∙ ap (λ (x : ℕ). some (spot x (p .field))) (omega (arith, f .line)),
   )
 
   -- and nothing exactly when no line offends.

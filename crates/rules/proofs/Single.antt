@@ -60,7 +60,7 @@ module _ (s g : List Row) (u : ℕ) (l : Label) (n : isList s (typeOf g u) (l .f
       → Calm (check25 s g before r after) → Calm (check26 before r after) → ⊥
   no-second before e r after m a b c25 c26 =
       let plain : isList s (typeOf g (source r)) (fieldOf r) ≡ false =
-          ap (λ (x : ℕ). isList s (typeOf g x) (fieldOf r)) (b .from) ∙ ap (λ (x : Label). isList s (typeOf g u) (x .field)) (b .named) ∙ n in
+      ap (λ (x : ℕ). isList s (typeOf g x) (fieldOf r)) (b .from) ∙ ap (λ (x : Label). isList s (typeOf g u) (x .field)) (b .named) ∙ n in
       let applies : (is E r && not (isList s (typeOf g (source r)) (fieldOf r))) ≡ true = and-true (b .edge) (ap not plain) in
       let from : source e ≡ source r = a .from ∙ sym (b .from) in
       let named : labelOf e ≡ labelOf r = a .named ∙ sym (b .named) in

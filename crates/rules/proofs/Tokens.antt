@@ -1,18 +1,16 @@
 -- Theorem 8: every token of an accepted response is a value, a label or one of the five marks, and below 2^32. Assumes nothing.
 use Prim.Native.Nat.{ℕ, zero, suc, _+_, _*_, _^_, _≤_, _<_, compare, Ordering, Ordering·lt, Ordering·eq, Ordering·gt}
 use native.Mathlib.Omega.{arith}
-use mathlib.Core.Path.{_≡_, refl, sym, ap, _∙_, subst}
-use mathlib.Core.Bool.{Bool, true, false, _&&_, not, true≢false, false≢true}
-use mathlib.Core.List.{List, [], _∷_, _++_, map, List·Memᴰ, List·Memᴰ·head, List·Memᴰ·tail, List·Memᴰ·not-nil, List·Memᴰ·cases-cons}
+use mathlib.Core.Path.{_≡_, refl}
+use mathlib.Core.Bool.{Bool, true, false}
+use mathlib.Core.List.{List, [], _∷_, _++_, List·Memᴰ, List·Memᴰ·head, List·Memᴰ·tail, List·Memᴰ·not-nil, List·Memᴰ·cases-cons}
 use mathlib.Core.Logic.{_⊎_, inl, inr}
-use mathlib.Core.Option.{none}
-use lib.Dec.{eqb, leb, ltb}
-use lib.ListN.{length, getD, drop}
-use borrow.Author.Tests.{ltb-false, leb-true, not-false}
-use Rattle.rules.specs.Lists.{those, keepIf, all, isEmpty, each}
-use Rattle.rules.specs.Text.{Line, lines, fields, isDigit, decimal, leadingZero, largest, isNumber, Row, rowOf, row, rows, at, valuesOf, F}
-use Rattle.rules.specs.Search.{firstLine, whole, testEach}
-use Rattle.rules.specs.Forms.{Form, formTests, lineTests, fieldTests, breaks, textForm, longest, graphForms}
+use lib.Dec.{eqb}
+use lib.ListN.{getD, drop}
+use borrow.Author.Tests.{ltb-false}
+use Rattle.rules.specs.Lists.{those, each}
+use Rattle.rules.specs.Text.{largest, Row, at, valuesOf, F}
+use Rattle.rules.specs.Forms.{graphForms}
 use Rattle.rules.specs.Schema.{is}
 use Rattle.rules.specs.Graph.{Label, propertyOf}
 use Rattle.rules.specs.Query.{shownAs, check33}
@@ -21,76 +19,15 @@ use Rattle.rules.specs.World.{World, Shape, scalar, list, single, Found,
 use Rattle.rules.specs.Eval.{label, openObject, closeObject, openList, closeList, null, object, listed, value, objectAt, answer, onlyIf, shown, eval}
 use Rattle.rules.specs.Answer.{Texts, schemaRows, graphRows, queryRows, worldOf, rootOf, treeOf, response, checks}
 use Rattle.rules.specs.Contract.{Passed}
-use Rattle.rules.proofs.Bools.{and-true-left, and-true-right}
-use Rattle.rules.proofs.Clean.{Silent, silent-left, Calm, Each, each-silent, clean, clean-each, or-else-none}
+use Rattle.rules.proofs.Clean.{Calm, Each, each-map, each-append, each-drop, each-those, clean, clean-each}
+use Rattle.rules.proofs.Sound.{Small, rows-each}
 
 pub data Token (t : ℕ) : Type 0 where
   isValue : t ≤ largest → Token t
   isLabel : (l : ℕ) → l ≤ 255 → t ≡ label l → Token t
   isMark : List·Memᴰ t (openObject ∷ closeObject ∷ openList ∷ closeList ∷ null ∷ []) → Token t
 
--- ---- lists of which every element has a property
-
-each-append : {A : Type 0} (P : A → Type 0) (xs ys : List A) → Each P xs → Each P ys → Each P (xs ++ ys)
-each-append P [] ys a b = b
-each-append P (x ∷ xs) ys a b = (a .0, each-append P xs ys (a .1) b)
-
-each-map : {A : Type 0} (P Q : A → Type 0) → ((x : A) → P x → Q x) → (xs : List A) → Each P xs → Each Q xs
-each-map P Q f [] a = tt
-each-map P Q f (x ∷ xs) a = (f x (a .0), each-map P Q f xs (a .1))
-
-each-drop : {A : Type 0} (P : A → Type 0) (n : ℕ) (xs : List A) → Each P xs → Each P (drop n xs)
-each-drop P zero xs a = a
-each-drop P (suc n) [] a = tt
-each-drop P (suc n) (x ∷ xs) a = each-drop P n xs (a .1)
-
-each-those : {A : Type 0} (P : A → Type 0) (p : A → Bool) (xs : List A) → Each P xs → Each P (those p xs)
-each-those P p [] a = tt
-each-those P p (x ∷ xs) a = go (each-those P p xs (a .1)) (p x)
-  where
-    go : Each P (those p xs) → (b : Bool) → Each P (keepIf b x (those p xs))
-    go ih true = (a .0, ih)
-    go ih false = ih
-
--- ---- a sound text's numbers are at most 999,999,999
-
-abbrev pub Small : List ℕ → Type 0
-Small ns = Each (λ n. n ≤ largest) ns
-
-number-small : (s : List ℕ) → isNumber s ≡ true → decimal 0 s ≤ largest
-number-small s h =
-    let r1 = and-true-right (not (isEmpty s)) (all isDigit s && (not (leadingZero s) && leb (decimal 0 s) largest)) h in
-    let r2 = and-true-right (all isDigit s) (not (leadingZero s) && leb (decimal 0 s) largest) r1 in
-    leb-true (decimal 0 s) largest (and-true-right (not (leadingZero s)) (leb (decimal 0 s) largest) r2)
-
-numbers-small : (ns : List (List ℕ)) → Each (λ n. not (isNumber n) ≡ false) ns → Small (map (decimal 0) ns)
-numbers-small [] e = tt
-numbers-small (n ∷ ns) e = (number-small n (not-false (isNumber n) (e .0)), numbers-small ns (e .1))
-
-fields-small : (fs : List Form) (ss : List (List ℕ)) → Silent (fieldTests fs ss) → Small (rowOf ss .numbers)
-fields-small fs [] h = tt
-fields-small fs (l ∷ ns) h =
-    let numbers = testEach (λ n. not (isNumber n)) 1 2 ns in
-    numbers-small ns (each-silent (λ n. not (isNumber n)) 1 2 ns (silent-left numbers (formTests fs (rowOf (l ∷ ns))) h))
-
-bytes-small : (fs : List Form) (s : List ℕ) → Silent (lineTests fs s) → Small (rowOf (fields s) .numbers)
-bytes-small fs [] h = absurd (true≢false (h .0))
-bytes-small fs (b ∷ s) h = fields-small fs (fields (b ∷ s)) h
-
-line-small : (fs : List Form) (before : List Line) (l : Line) (after : List Line) → Calm (breaks fs before l after) → Small (row l .numbers)
-line-small fs before l after c = bytes-small fs (l .bytes) ((c .0) refl .1)
-
-rows-small : (ls : List Line) → Each (λ l. Small (row l .numbers)) ls → Each (λ r. Small (r .numbers)) (map row ls)
-rows-small [] e = tt
-rows-small (l ∷ ls) e = (e .0, rows-small ls (e .1))
-
-pub text-small : (fs : List Form) (s : List ℕ) → textForm fs s ≡ none → Each (λ r. Small (r .numbers)) (rows s)
-text-small fs s h =
-    rows-small (lines s)
-    (clean-each (breaks fs) (λ l. Small (row l .numbers)) (line-small fs) [] (lines s)
-    (clean (breaks fs) [] 1 (lines s) (or-else-none (whole (ltb longest (length s))) (firstLine (breaks fs) (lines s)) h)))
-
--- ---- so are the values that lookups find
+-- ---- the values that lookups find are at most 999,999,999
 
 abbrev SmallFound : Found → Type 0
 SmallFound nothing = Unit {0}
@@ -202,7 +139,7 @@ response-tokens short x p =
     let q = queryRows x in
     let labels = clean-each (check33 s) (λ r. Labelled (asksOf r)) (row-labelled s) [] q (clean (check33 s) [] 1 q (p 33)) in
     eval-tokens (worldOf x)
-    (λ u l. found-small (those (propertyOf u l) g) (each-those (λ r. Small (r .numbers)) (propertyOf u l) g (text-small graphForms (x .graph) (p 20))))
+    (λ u l. found-small (those (propertyOf u l) g) (each-those (λ r. Small (r .numbers)) (propertyOf u l) g (rows-each graphForms (λ r. Small (r .numbers)) (λ l k. k .small) (x .graph) (p 20))))
     (treeOf x)
     (siblings-labelled (entriesFrom 0 q) 0 (entries-labelled 0 q labels))
     (rootOf x)

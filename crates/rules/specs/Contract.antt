@@ -1,14 +1,14 @@
 -- What a call owes, in 01's words and without saying how it is computed: no two outcomes meet them. Assumes nothing.
 use Prim.Native.Nat.{ℕ, suc, _≤_, _<_}
 use mathlib.Core.Path.{_≡_}
+use mathlib.Core.Logic.{_⊎_}
 use mathlib.Core.Bool.{Bool, true, false}
 use mathlib.Core.List.{List, [], _∷_, reverse}
 use mathlib.Core.Option.{Option, none, some}
 use lib.Dec.{eqb}
 use lib.ListN.{length, getD, take, drop}
 use Rattle.rules.specs.Search.{Check, fault}
-use Rattle.rules.specs.Sizing.{cap}
-use Rattle.rules.specs.Answer.{Texts, response, visitsIn, Numbered, checks, answerChecks, space, Area, tooShort}
+use Rattle.rules.specs.Answer.{Texts, response, visitsIn, Numbered, checks, answerChecks, Area, tooShort}
 use Rattle.rules.specs.declared.Spot.{Spot}
 use Rattle.rules.specs.declared.Outcome.{Outcome}
 
@@ -54,6 +54,19 @@ pub record Shows (o : Outcome) (n p k vs : ℕ) : Type 0 where
   pub size : o .size ≡ k
   pub visits : o .visits ≡ vs
 
+-- k is n "exact to 1,000,000 and 1,000,001 above"
+pub record Exact (n k : ℕ) : Type 0 where
+  pub upto : n ≤ 1000000 → k ≡ n
+  pub above : 1000000 < n → k ≡ 1000001
+
+-- the length n of a response exceeds the room, "the smaller of the number given and the response buffer's length"; or it does not
+abbrev pub Exceeds : ℕ → ℕ → List ℕ → Type 0
+Exceeds n room buffer = (room < n) ⊎ (length buffer < n)
+
+pub record Fits (n room : ℕ) (buffer : List ℕ) : Type 0 where
+  pub given : n ≤ room
+  pub held : n ≤ length buffer
+
 -- "An accepted answer changes only the first `size` numbers of the response buffer", which then are the response.
 pub record Written (r buffer after : List ℕ) : Type 0 where
   pub front : take (length r) after ≡ r
@@ -72,15 +85,18 @@ AllZeros (a ∷ more) (b ∷ bs) = Zeros (a .held) b × AllZeros more bs
 
 -- ---- the two calls
 
+-- What sizing returns, and the work areas afterwards.
 pub record Sizes (areas : List Area) (x : Texts) (o : Outcome) (areas′ : List (List ℕ)) : Type 0 where
-  pub accepts : Passed (checks (tooShort areas) x) → Shows o 0 0 (cap (length (response x))) (length (visitsIn x))
+  pub accepts : Passed (checks (tooShort areas) x)
+      → (k : ℕ) × Exact (length (response x)) k × Shows o 0 0 k (length (visitsIn x))
   pub refuses : (n : ℕ) (p : Spot) → Least (checks (tooShort areas) x) n p → Shows o n (p .line) 0 0
   pub clears : AllZeros areas areas′
 
+-- What answering returns, and the response buffer and the work areas afterwards.
 pub record Answers (areas : List Area) (x : Texts) (room : ℕ) (buffer : List ℕ) (o : Outcome) (buffer′ : List ℕ) (areas′ : List (List ℕ)) : Type 0 where
-  pub accepts : Passed (answerChecks (tooShort areas) x room) → length (response x) ≤ space room buffer
+  pub accepts : Passed (answerChecks (tooShort areas) x room) → Fits (length (response x)) room buffer
       → Shows o 0 0 (length (response x)) (length (visitsIn x)) × Written (response x) buffer buffer′
-  pub too-large : Passed (answerChecks (tooShort areas) x room) → space room buffer < length (response x)
-      → Shows o 50 0 (cap (length (response x))) (length (visitsIn x)) × (buffer′ ≡ buffer)
+  pub too-large : Passed (answerChecks (tooShort areas) x room) → Exceeds (length (response x)) room buffer
+      → (k : ℕ) × Exact (length (response x)) k × Shows o 50 0 k (length (visitsIn x)) × (buffer′ ≡ buffer)
   pub refuses : (n : ℕ) (p : Spot) → Least (answerChecks (tooShort areas) x room) n p → Shows o n (p .line) 0 0 × (buffer′ ≡ buffer)
   pub clears : AllZeros areas areas′

@@ -13,4 +13,5 @@ pub mod Sizing
 pub mod Answer
 pub mod Contract
 pub mod Samples
+pub mod Spots
 pub mod Doubling

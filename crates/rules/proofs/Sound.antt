@@ -1,14 +1,14 @@
 -- What the text form gives, line by line: checks 10, 20 and 30. Assumes nothing.
 use Prim.Native.Nat.{ℕ, _≤_}
-use mathlib.Core.Path.{_≡_, refl}
+use mathlib.Core.Path.{_≡_, refl, ap}
 use mathlib.Core.Bool.{Bool, true, false, _&&_, not, true≢false}
-use mathlib.Core.List.{List, [], _∷_, _++_, map}
+use mathlib.Core.List.{List, [], _∷_, _++_, map, tail}
 use mathlib.Core.Option.{none}
 use lib.Dec.{leb, ltb}
 use lib.ListN.{length, length-map}
 use borrow.Author.Tests.{leb-true, not-false}
 use Rattle.rules.specs.Lists.{all, isEmpty}
-use Rattle.rules.specs.Text.{Line, lines, fields, isDigit, decimal, leadingZero, largest, isNumber, Row, rowOf, row, rows}
+use Rattle.rules.specs.Text.{Line, lines, fields, isDigit, decimal, leadingZero, largest, isNumber, Row, leading, rowOf, row, rows}
 use Rattle.rules.specs.Search.{firstLine, whole, testEach}
 use Rattle.rules.specs.Forms.{Form, formTests, lineTests, fieldTests, breaks, textForm, longest}
 use Rattle.rules.proofs.Bools.{and-true-right}
@@ -18,10 +18,10 @@ use Rattle.rules.proofs.Parting.{joined, lines-joined, Filled, fields-f
 abbrev pub Small : List ℕ → Type 0
 Small ns = Each (λ n. n ≤ largest) ns
 
--- A line that keeps the form: a newline ends it, its numbers are at most 999,999,999, and it breaks no test of its letter.
+-- A line that keeps the form: a newline ends it, all its fields but the first are numbers, and it breaks no test of its letter.
 pub record Sound (fs : List Form) (l : Line) : Type 0 where
   pub ended : l .ended ≡ true
-  pub small : Small (row l .numbers)
+  pub numbers : Each (λ n. not (isNumber n) ≡ false) (tail (fields (l .bytes)))
   pub formed : Silent (formTests fs (row l))
 
 -- ---- one line
@@ -32,19 +32,36 @@ number-small s h =
     let r2 = and-true-right (all isDigit s) (not (leadingZero s) && leb (decimal 0 s) largest) r1 in
     leb-true (decimal 0 s) largest (and-true-right (not (leadingZero s)) (leb (decimal 0 s) largest) r2)
 
-numbers-small : (ns : List (List ℕ)) → Each (λ n. not (isNumber n) ≡ false) ns → Small (map (decimal 0) ns)
-numbers-small [] e = tt
-numbers-small (n ∷ ns) e = (number-small n (not-false (isNumber n) (e .0)), numbers-small ns (e .1))
+-- the numbers of any row are small, and those of fields that are all numbers are all of them
+leading-small : (fs : List (List ℕ)) → Small (leading fs)
+leading-small [] = tt
+leading-small (f ∷ fs) = go (leading-small fs) (isNumber f) refl
+  where
+    go : Small (leading fs) → (b : Bool) → isNumber f ≡ b → Small (leading (f ∷ fs))
+    go ih true e = rw (e, leading) (number-small f e, ih)
+    go ih false e = rw (e, leading) tt
 
-fields-sound : (fs : List Form) (ss : List (List ℕ)) → Filled ss → Silent (fieldTests fs ss) → Small (rowOf ss .numbers) × Silent (formTests fs (rowOf ss))
+pub fields-small : (fs : List (List ℕ)) → Small (rowOf fs .numbers)
+fields-small [] = tt
+fields-small ([] ∷ fs) = tt
+fields-small ((b ∷ []) ∷ fs) = leading-small fs
+fields-small ((b ∷ c ∷ s) ∷ fs) = tt
+
+pub leading-all : (fs : List (List ℕ)) → Each (λ n. not (isNumber n) ≡ false) fs → leading fs ≡ map (decimal 0) fs
+leading-all [] e = refl
+leading-all (f ∷ fs) e = rw (not-false (isNumber f) (e .0), leading) (ap (λ (r : List ℕ). decimal 0 f ∷ r) (leading-all fs (e .1)))
+
+fields-sound : (fs : List Form) (ss : List (List ℕ)) → Filled ss → Silent (fieldTests fs ss)
+    → Each (λ n. not (isNumber n) ≡ false) (tail ss) × Silent (formTests fs (rowOf ss))
 fields-sound fs [] f h = absurd f
 fields-sound fs (l ∷ ns) f h =
     let numbers = testEach (λ n. not (isNumber n)) 1 2 ns in (
-      numbers-small ns (each-silent (λ n. not (isNumber n)) 1 2 ns (silent-left numbers (formTests fs (rowOf (l ∷ ns))) h)),
+      each-silent (λ n. not (isNumber n)) 1 2 ns (silent-left numbers (formTests fs (rowOf (l ∷ ns))) h),
       silent-right numbers (formTests fs (rowOf (l ∷ ns))) h,
     )
 
-bytes-sound : (fs : List Form) (s : List ℕ) → Silent (lineTests fs s) → Small (rowOf (fields s) .numbers) × Silent (formTests fs (rowOf (fields s)))
+bytes-sound : (fs : List Form) (s : List ℕ) → Silent (lineTests fs s)
+    → Each (λ n. not (isNumber n) ≡ false) (tail (fields s)) × Silent (formTests fs (rowOf (fields s)))
 bytes-sound fs [] h = absurd (true≢false (h .0))
 bytes-sound fs (b ∷ s) h = fields-sound fs (fields (b ∷ s)) (fields-filled (b ∷ s)) h
 
@@ -52,13 +69,21 @@ line-sound : (fs : List Form) (before : List Line) (l : Line) (after : List Line
 line-sound fs before l after c =
     let t = (c .0) refl in
     let b = bytes-sound fs (l .bytes) (t .1) in
-    record { ended = not-false (l .ended) (t .0); small = b .0; formed = b .1 }
+    record { ended = not-false (l .ended) (t .0); numbers = b .0; formed = b .1 }
 
 -- ---- the lines of a text
 
 each-row : (P : Row → Type 0) (ls : List Line) → Each (λ l. P (row l)) ls → Each P (map row ls)
 each-row P [] e = tt
 each-row P (l ∷ ls) e = (e .0, each-row P ls (e .1))
+
+lines-small : (ls : List Line) → Each (λ l. Small (row l .numbers)) ls
+lines-small [] = tt
+lines-small (l ∷ ls) = (fields-small (fields (l .bytes)), lines-small ls)
+
+-- every number of any text is at most 999,999,999
+pub rows-small : (s : List ℕ) → Each (λ r. Small (r .numbers)) (rows s)
+rows-small s = each-row (λ r. Small (r .numbers)) (lines s) (lines-small (lines s))
 
 module _ (fs : List Form) where
   pub text-sound : (s : List ℕ) → textForm fs s ≡ none → Each (Sound fs) (lines s)

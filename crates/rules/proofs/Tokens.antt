@@ -10,7 +10,6 @@ use lib.ListN.{getD, drop}
 use borrow.Author.Tests.{ltb-false}
 use Rattle.rules.specs.Lists.{those, each}
 use Rattle.rules.specs.Text.{largest, Row, at, valuesOf, F}
-use Rattle.rules.specs.Forms.{graphForms}
 use Rattle.rules.specs.Schema.{is}
 use Rattle.rules.specs.Graph.{Label, propertyOf}
 use Rattle.rules.specs.Query.{shownAs, check33}
@@ -20,7 +19,7 @@ use Rattle.rules.specs.Eval.{label, openObject, closeObject, openList, c
 use Rattle.rules.specs.Answer.{Texts, schemaRows, graphRows, queryRows, worldOf, rootOf, treeOf, response, checks}
 use Rattle.rules.specs.Contract.{Passed}
 use Rattle.rules.proofs.Clean.{Calm, Each, each-map, each-append, each-drop, each-those, clean, clean-each}
-use Rattle.rules.proofs.Sound.{Small, rows-each}
+use Rattle.rules.proofs.Sound.{Small, rows-small}
 
 pub data Token (t : ℕ) : Type 0 where
   isValue : t ≤ largest → Token t
@@ -139,7 +138,7 @@ response-tokens short x p =
     let q = queryRows x in
     let labels = clean-each (check33 s) (λ r. Labelled (asksOf r)) (row-labelled s) [] q (clean (check33 s) [] 1 q (p 33)) in
     eval-tokens (worldOf x)
-    (λ u l. found-small (those (propertyOf u l) g) (each-those (λ r. Small (r .numbers)) (propertyOf u l) g (rows-each graphForms (λ r. Small (r .numbers)) (λ l k. k .small) (x .graph) (p 20))))
+    (λ u l. found-small (those (propertyOf u l) g) (each-those (λ r. Small (r .numbers)) (propertyOf u l) g (rows-small (x .graph))))
     (treeOf x)
     (siblings-labelled (entriesFrom 0 q) 0 (entries-labelled 0 q labels))
     (rootOf x)

@@ -6,9 +6,9 @@ use mathlib.Core.Option.{Option}
 use lib.Dec.{ltb, eqb}
 use lib.ListN.{length, getD}
 use Rattle.rules.specs.Lists.{those, any, sumOf}
-use Rattle.rules.specs.Text.{Row, at, E, N, P, Pair, pairsOf, valuesOf, fieldNo, typeNo}
+use Rattle.rules.specs.Text.{Row, noRow, at, E, N, P, Pair, pairsOf, valuesOf, fieldNo, typeNo}
 use Rattle.rules.specs.Search.{_#_, testEach, given, Check, whole}
-use Rattle.rules.specs.Schema.{is, noRow, atMost, declaredField, declaredArg, fieldType, listMark, isList, argType, hasField, takesArg, compatible, queryType, isScalar, isObject, inRange}
+use Rattle.rules.specs.Schema.{is, atMost, declaredField, declaredArg, fieldType, listMark, isList, argType, hasField, takesArg, compatible, queryType, isScalar, isObject, inRange}
 use Rattle.rules.specs.declared.FieldNo.{FieldNo}
 use Rattle.rules.specs.declared.TypeNo.{TypeNo}
 use Rattle.rules.specs.declared.Spot.{Spot}

@@ -6,7 +6,7 @@ use mathlib.Core.Option.{Option}
 use lib.Dec.{leb, ltb, eqb}
 use lib.ListN.{length, getD}
 use Rattle.rules.specs.Lists.{those, any, among, sameNumbers}
-use Rattle.rules.specs.Text.{Row, at, A, F, G, H, I, M, O, Q, S, U, fieldNo, argNo, typeNo}
+use Rattle.rules.specs.Text.{Row, noRow, at, A, F, G, H, I, M, O, Q, S, U, fieldNo, argNo, typeNo}
 use Rattle.rules.specs.Search.{_#_, Tests, given, Check, whole}
 use Rattle.rules.specs.declared.FieldNo.{FieldNo}
 use Rattle.rules.specs.declared.ArgNo.{ArgNo}
@@ -14,10 +14,6 @@ use Rattle.rules.specs.declared.TypeNo.{TypeNo}
 use Rattle.rules.specs.declared.Spot.{Spot}
 
 -- ---- what is declared: "Things are numbered from 0 in the order of their records"
-
--- the row that stands for a number that is not declared: it has no letter
-abbrev pub noRow : Row
-noRow = record { letter = 0; numbers = [] }
 
 abbrev pub is : ℕ → Row → Bool
 is l r = eqb (r .letter) l

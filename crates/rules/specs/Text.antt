@@ -92,7 +92,7 @@ fields (b ∷ s) = elim (eqb b tab) [ true ↦ [] ∷ fields s | false ↦ onFir
 -- The number that decimal digits write behind those that write n.
 abbrev pub decimal : ℕ → List ℕ → ℕ
 decimal n [] = n
-decimal n (b ∷ s) = decimal (10 * n + (b - 48)) s
+decimal n (b ∷ s) = decimal (n * 10 + (b - 48)) s
 
 abbrev pub leadingZero : List ℕ → Bool
 leadingZero [] = false
@@ -108,19 +108,24 @@ isNumber s = not (isEmpty s) && (all isDigit s && (not (leadingZero s) && leb (d
 
 -- ---- rows
 
--- The row of a line: its letter, and its numbers. A first field that is not one byte gives the letter 0, which no text uses.
+-- The row of a line: its letter, and its numbers up to the first field that is no number. (Of a line that keeps the text form
+-- these are all.) A line whose first field is not one byte has no letter, which is 0 here, and no numbers.
 pub record Row : Type 0 where
   pub letter : ℕ
   pub numbers : List ℕ
 
-abbrev pub letterOf : List ℕ → ℕ
-letterOf [] = 0
-letterOf (b ∷ []) = b
-letterOf (b ∷ c ∷ s) = 0
+abbrev pub noRow : Row
+noRow = record { letter = 0; numbers = [] }
+
+abbrev pub leading : List (List ℕ) → List ℕ
+leading [] = []
+leading (f ∷ fs) = elim (isNumber f) [ true ↦ decimal 0 f ∷ leading fs | false ↦ [] ]
 
 abbrev pub rowOf : List (List ℕ) → Row
-rowOf [] = record { letter = 0; numbers = [] }
-rowOf (l ∷ ns) = record { letter = letterOf l; numbers = map (decimal 0) ns }
+rowOf [] = noRow
+rowOf ([] ∷ fs) = noRow
+rowOf ((b ∷ []) ∷ fs) = record { letter = b; numbers = leading fs }
+rowOf ((b ∷ c ∷ s) ∷ fs) = noRow
 
 abbrev pub row : Line → Row
 row l = rowOf (fields (l .bytes))

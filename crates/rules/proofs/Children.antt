@@ -15,7 +15,7 @@ use Rattle.rules.specs.Tree.{field}
 use Rattle.rules.specs.World.{Shape, scalar, list, single, shapeIf}
 use Rattle.rules.specs.Eval.{next, onward, first, stay}
 use Rattle.rules.specs.Sizing.{weighed, passed}
-use Rattle.rules.specs.Answer.{Texts, schemaRows, graphRows, worldOf}
+use Rattle.rules.specs.Answer.{Texts, schemaIn, graphIn, graphRows, worldOf}
 use Rattle.rules.proofs.Sums.{weighed-zero, weighed-add}
 use Rattle.rules.proofs.Visited.{getD-up}
 use Rattle.rules.proofs.Kept.{at-place}
@@ -77,15 +77,15 @@ onward-all false true vs z h = refl
 onward-all false false vs z h = first-all vs (h refl)
 
 pub children-sum : (x : Texts) → Facts x → (n : ℕ) (l : Label) (row : List ℕ) (v : ℕ) → v < worldOf x .size
-    → ((u : ℕ) → isScalar (schemaRows x) (fieldType (schemaRows x) (typeOf (graphRows x) u) (l .field)) ≡ false)
+    → ((u : ℕ) → isScalar (schemaIn x) (fieldType (schemaIn x) (typeOf (graphIn x) u) (l .field)) ≡ false)
     → getD (passed (worldOf x) (field n l) row) v 0 ≡ sumOf (λ e. getD row (source e) 0) (those (edgeTo l v) (graphRows x))
 children-sum x f n l row v h object =
     let w = worldOf x in
-    let s = schemaRows x in
-    let g = graphRows x in
+    let s = schemaIn x in
+    let g = graphIn x in
     getD-up (λ y. weighed (λ u. times y (next w (field n l) u)) 0 row) 0 (w .size) v h
     ∙ ap (λ (y : ℕ). weighed (λ u. times y (next w (field n l) u)) 0 row) (omega arith)
     ∙ ap (λ (k : ℕ → ℕ). weighed k 0 row)
     (fun-ext (λ u. ap (times v)
     (onward-all (isScalar s (fieldType s (typeOf g u) (l .field))) (isList s (typeOf g u) (l .field)) ((w .targets) u l) (object u) ((f .single) u l))))
-    ∙ all-edges l v row g
+    ∙ all-edges l v row (graphRows x)

@@ -13,11 +13,11 @@ use Rattle.rules.specs.Lists.{all}
 use Rattle.rules.specs.Text.{Row, rows, Pair, pairsOf, F, T}
 use Rattle.rules.specs.Search.{firstLine}
 use Rattle.rules.specs.Forms.{formTests, queryForms, textForm}
-use Rattle.rules.specs.Schema.{is, fieldType, hasField, takesArg, isScalar, ownsFields, queryType}
+use Rattle.rules.specs.Schema.{Schema, is, fieldType, hasField, takesArg, isScalar, ownsFields, queryType}
 use Rattle.rules.specs.Query.{depth, shownAs, asked, condition, hasChild, handsDown, context, check34}
 use Rattle.rules.specs.Tree.{Asks, field, on, Entry, Forest, none as noEntry, node, asksOf, entriesFrom, entries, siblings, tree}
 use Rattle.rules.specs.Valid.{Kinds, kinds, childless, under, validEntry, valid}
-use Rattle.rules.specs.Answer.{Texts, schemaRows, queryRows, treeOf, checks}
+use Rattle.rules.specs.Answer.{Texts, schemaIn, queryRows, treeOf, checks}
 use Rattle.rules.specs.Contract.{Passed}
 use Rattle.rules.specs.declared.TypeNo.{TypeNo}
 use Rattle.rules.proofs.Bools.{and-true, and-true-left, and-true-right}
@@ -97,7 +97,7 @@ each-all p (x ∷ ps) h = (ap not (and-true-left (p x) (all p ps) h), each-all p
 letter-other : (r : Row) (a b : ℕ) → is a r ≡ true → eqb a b ≡ false → is b r ≡ false
 letter-other r a b h d = rw (eqb-true (r .letter) a h) d
 
-module _ (s : List Row) where
+module _ (s : Schema) where
   abbrev k : Kinds
   k = kinds s
 
@@ -250,6 +250,6 @@ module _ (s : List Row) where
       only v j h = let z : _≡_ {A = ℕ} 0 j = omega arith in subst (λ (n : ℕ). valid k (context s n []) (siblings (entries q) n) ≡ true) z v
 
 -- So the query of texts that pass conforms to their schema.
-pub query-conforms : (short : Bool) (x : Texts) → Passed (checks short x) → valid (kinds (schemaRows x)) (queryType (schemaRows x)) (treeOf x) ≡ true
+pub query-conforms : (short : Bool) (x : Texts) → Passed (checks short x) → valid (kinds (schemaIn x)) (queryType (schemaIn x)) (treeOf x) ≡ true
 query-conforms short x p =
-    conforms (schemaRows x) (queryRows x) (query-known (x .query) (p 30)) (depths-step (queryRows x) (p 32)) .0 (p 34)
+    conforms (schemaIn x) (queryRows x) (query-known (x .query) (p 30)) (depths-step (queryRows x) (p 32)) .0 (p 34)

@@ -12,7 +12,7 @@ use lib.ListN.{length}
 use borrow.Author.Tests.{ltb-false, lt-ltb, le-ltb}
 use Rattle.rules.specs.Search.{whole, spot}
 use Rattle.rules.specs.Sizing.{most, cap}
-use Rattle.rules.specs.Answer.{Texts, schemaRows, graphRows, worldOf, rootOf, treeOf, response, visitsIn, Numbered, checks, answerChecks, largestRoom, verdict, outcome, refused, told, sized, space, fitted, answered}
+use Rattle.rules.specs.Answer.{Texts, schemaIn, graphRows, worldOf, rootOf, treeOf, response, visitsIn, Numbered, checks, answerChecks, largestRoom, verdict, outcome, refused, told, sized, space, fitted, answered}
 use Rattle.rules.specs.Contract.{placeOf, Passed, Least}
 use Rattle.rules.specs.declared.Spot.{Spot}
 use Rattle.rules.specs.declared.Outcome.{Outcome}
@@ -95,10 +95,8 @@ module _ (short : Bool) (x : Texts) where
   pub never-40 : sized short x .number ≢ 40
   never-40 h =
       let r = refused-exactly 40 (omega arith) h in
-      let s = schemaRows x in
-      let g = graphRows x in
       let less : (m : ℕ) → m < 40 → placeOf m (checks short x) ≡ none = r .1 .none-less in
-      let met = no-fork-met s g (less 25 (omega arith)) (less 26 (omega arith)) (treeOf x) (rootOf x) in
+      let met = no-fork-met (schemaIn x) (graphRows x) (less 25 (omega arith)) (less 26 (omega arith)) (treeOf x) (rootOf x) in
       some-none (sym (r .1 .offended) ∙ ap whole met)
 
 -- ---- answering

@@ -12,8 +12,8 @@ use borrow.Author.Tests.{eq-eqb, eqb-true, le-ltb, not-false}
 use Rattle.rules.specs.Lists.{those, keepIf, any}
 use Rattle.rules.specs.Text.{Row, E}
 use Rattle.rules.specs.Search.{firstLine}
-use Rattle.rules.specs.Schema.{is, isList, isScalar, fieldType}
-use Rattle.rules.specs.Graph.{Label, sameLabel, source, target, fieldOf, labelOf, typeOf, starts, edgeOf, diverts, check25, check26}
+use Rattle.rules.specs.Schema.{Schema, is, isList, isScalar, fieldType}
+use Rattle.rules.specs.Graph.{Label, Graph, graphOf, sameLabel, source, target, fieldOf, labelOf, typeOf, starts, edgeOf, diverts, check25, check26}
 use Rattle.rules.specs.Tree.{Asks, field, on, Entry, Forest, none as noEntry, node}
 use Rattle.rules.specs.World.{World, world, shapeIf, scalar, list, single, Shape}
 use Rattle.rules.specs.Eval.{next, two, forked, meetsFork}
@@ -54,7 +54,7 @@ mine-is u l r m = and-true (m .edge) (and-true (eq-eqb (source r) u (m .from)) (
 
 -- ---- two edges of one node with one label, where the field is no list there
 
-module _ (s g : List Row) (u : ℕ) (l : Label) (n : isList s (typeOf g u) (l .field) ≡ false) where
+module _ (s : Schema) (g : Graph) (u : ℕ) (l : Label) (n : isList s (typeOf g u) (l .field) ≡ false) where
   -- an earlier one leaves no place for a later one
   no-second : (before : List Row) (e r : Row) (after : List Row) → List·Memᴰ e before → Mine u l e → Mine u l r
       → Calm (check25 s g before r after) → Calm (check26 before r after) → ⊥
@@ -98,14 +98,17 @@ two-targets true plural vs h = refl
 two-targets false true vs h = refl
 two-targets false false vs h = le-ltb 1 (length vs) (h refl)
 
-module _ (s g : List Row) (c25 : firstLine (check25 s g) g ≡ none) (c26 : firstLine check26 g ≡ none) where
+module _ (s : Schema) (rs : List Row) (c25 : firstLine (check25 s (graphOf rs)) rs ≡ none) (c26 : firstLine check26 rs ≡ none) where
+  abbrev g : Graph
+  g = graphOf rs
+
   -- a field that is no list has at most one target under a label
   pub one-target : (u : ℕ) (l : Label) → isList s (typeOf g u) (l .field) ≡ false → length ((world s g .targets) u l) ≤ 1
   one-target u l n =
       omega (
         arith,
-        length-map (those (edgeOf u l) g) target,
-        at-most-one s g u l n [] g (clean (check25 s g) [] 1 g c25) (clean check26 [] 1 g c26),
+        length-map (those (edgeOf u l) rs) target,
+        at-most-one s g u l n [] rs (clean (check25 s g) [] 1 rs c25) (clean check26 [] 1 rs c26),
       )
 
   no-fork : (a : Asks) (u : ℕ) → forked (world s g) a u ≡ false

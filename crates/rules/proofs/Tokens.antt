@@ -10,13 +10,13 @@ use lib.ListN.{getD, drop}
 use borrow.Author.Tests.{ltb-false}
 use Rattle.rules.specs.Lists.{those, each}
 use Rattle.rules.specs.Text.{largest, Row, at, valuesOf, F}
-use Rattle.rules.specs.Schema.{is}
-use Rattle.rules.specs.Graph.{Label, propertyOf}
+use Rattle.rules.specs.Schema.{Schema, is}
+use Rattle.rules.specs.Graph.{Label, Found, nothing, one, many, foundIn, propertyOf}
 use Rattle.rules.specs.Query.{shownAs, check33}
 use Rattle.rules.specs.Tree.{Asks, field, on, Entry, Forest, none as noEntry, node, asksOf, entriesFrom, siblings}
-use Rattle.rules.specs.World.{World, Shape, scalar, list, single, Found, nothing, one, many, foundIn}
+use Rattle.rules.specs.World.{World, Shape, scalar, list, single}
 use Rattle.rules.specs.Eval.{label, openObject, closeObject, openList, closeList, null, object, listed, value, objectAt, answer, onlyIf, shown, eval}
-use Rattle.rules.specs.Answer.{Texts, schemaRows, graphRows, queryRows, worldOf, rootOf, treeOf, response, checks}
+use Rattle.rules.specs.Answer.{Texts, schemaIn, graphRows, queryRows, worldOf, rootOf, treeOf, response, checks}
 use Rattle.rules.specs.Contract.{Passed}
 use Rattle.rules.proofs.Clean.{Calm, Each, each-map, each-append, each-drop, each-those, clean, clean-each}
 use Rattle.rules.proofs.Sound.{Small, rows-small}
@@ -58,7 +58,7 @@ abbrev LabelledTree : Forest → Type 0
 LabelledTree noEntry = Unit {0}
 LabelledTree (node e kids rest) = Labelled (e .asks) × LabelledTree kids × LabelledTree rest
 
-row-labelled : (s before : List Row) (r : Row) (after : List Row) → Calm (check33 s before r after) → Labelled (asksOf r)
+row-labelled : (s : Schema) (before : List Row) (r : Row) (after : List Row) → Calm (check33 s before r after) → Labelled (asksOf r)
 row-labelled s before r after c = go (is F r) refl
   where
     go : (b : Bool) → is F r ≡ b → Labelled (asksOf r)
@@ -133,7 +133,7 @@ module _ (w : World) (small : (u : ℕ) (l : Label) → SmallFound ((w .lookup) 
 
 pub response-tokens : (short : Bool) (x : Texts) → Passed (checks short x) → Each Token (response x)
 response-tokens short x p =
-    let s = schemaRows x in
+    let s = schemaIn x in
     let g = graphRows x in
     let q = queryRows x in
     let labels = clean-each (check33 s) (λ r. Labelled (asksOf r)) (row-labelled s) [] q (clean (check33 s) [] 1 q (p 33)) in

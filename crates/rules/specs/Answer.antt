@@ -9,8 +9,8 @@ use Rattle.rules.specs.Lists.{any}
 use Rattle.rules.specs.Text.{Row, rows}
 use Rattle.rules.specs.Search.{firstLine, whole}
 use Rattle.rules.specs.Forms.{schemaForms, graphForms, queryForms, textForm}
-use Rattle.rules.specs.Schema.{check11, check12, check13, check14, check15, check16}
-use Rattle.rules.specs.Graph.{check21, check22, check23, check24, check25, check26, check27}
+use Rattle.rules.specs.Schema.{Schema, schemaOf, check11, check12, check13, check14, check15, check16}
+use Rattle.rules.specs.Graph.{Graph, graphOf, check21, check22, check23, check24, check25, check26, check27}
 use Rattle.rules.specs.Query.{check31, check32, check33, check34}
 use Rattle.rules.specs.Tree.{Forest, tree}
 use Rattle.rules.specs.World.{World, world, queryNode}
@@ -36,12 +36,18 @@ graphRows x = rows (x .graph)
 abbrev pub queryRows : Texts → List Row
 queryRows x = rows (x .query)
 
--- the world, its query node, and the query as a tree
+-- the schema, the graph, the world, its query node, and the query as a tree
+abbrev pub schemaIn : Texts → Schema
+schemaIn x = schemaOf (schemaRows x)
+
+abbrev pub graphIn : Texts → Graph
+graphIn x = graphOf (graphRows x)
+
 abbrev pub worldOf : Texts → World
-worldOf x = world (schemaRows x) (graphRows x)
+worldOf x = world (schemaIn x) (graphIn x)
 
 abbrev pub rootOf : Texts → ℕ
-rootOf x = queryNode (schemaRows x) (graphRows x)
+rootOf x = queryNode (schemaIn x) (graphIn x)
 
 abbrev pub treeOf : Texts → Forest
 treeOf x = tree (queryRows x)
@@ -67,40 +73,42 @@ n by p = record { number = n; place = p }
 -- "Checks run in ascending number, each over its whole text before the next begins". `short`: "a work area is too short".
 abbrev pub schemaChecks : Bool → Texts → List Numbered
 schemaChecks short x =
-    let s = schemaRows x in
+    let s = schemaIn x in
+    let rs = schemaRows x in
     2 by whole short
     ∷ 10 by textForm schemaForms (x .schema)
-    ∷ 11 by firstLine check11 s
-    ∷ 12 by firstLine (check12 s) s
-    ∷ 13 by firstLine check13 s
-    ∷ 14 by firstLine (check14 s) s
-    ∷ 15 by firstLine (check15 s) s
-    ∷ 16 by check16 s
+    ∷ 11 by firstLine check11 rs
+    ∷ 12 by firstLine (check12 s) rs
+    ∷ 13 by firstLine check13 rs
+    ∷ 14 by firstLine (check14 s) rs
+    ∷ 15 by firstLine (check15 s) rs
+    ∷ 16 by check16 rs
     ∷ []
 
 abbrev pub graphChecks : Texts → List Numbered
 graphChecks x =
-    let s = schemaRows x in
-    let g = graphRows x in
+    let s = schemaIn x in
+    let g = graphIn x in
+    let rs = graphRows x in
     20 by textForm graphForms (x .graph)
-    ∷ 21 by firstLine check21 g
-    ∷ 22 by firstLine (check22 s g) g
-    ∷ 23 by firstLine (check23 s g) g
-    ∷ 24 by firstLine (check24 s g) g
-    ∷ 25 by firstLine (check25 s g) g
-    ∷ 26 by firstLine check26 g
+    ∷ 21 by firstLine check21 rs
+    ∷ 22 by firstLine (check22 s g) rs
+    ∷ 23 by firstLine (check23 s g) rs
+    ∷ 24 by firstLine (check24 s g) rs
+    ∷ 25 by firstLine (check25 s g) rs
+    ∷ 26 by firstLine check26 rs
     ∷ 27 by check27 s g
     ∷ []
 
 abbrev pub queryChecks : Texts → List Numbered
 queryChecks x =
-    let s = schemaRows x in
-    let q = queryRows x in
+    let s = schemaIn x in
+    let rs = queryRows x in
     30 by textForm queryForms (x .query)
-    ∷ 31 by firstLine check31 q
-    ∷ 32 by check32 q
-    ∷ 33 by firstLine (check33 s) q
-    ∷ 34 by firstLine (check34 s) q
+    ∷ 31 by firstLine check31 rs
+    ∷ 32 by check32 rs
+    ∷ 33 by firstLine (check33 s) rs
+    ∷ 34 by firstLine (check34 s) rs
     ∷ []
 
 abbrev pub evalChecks : Texts → List Numbered

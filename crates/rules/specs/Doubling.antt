@@ -2,6 +2,8 @@
 use Prim.Native.Nat.{ℕ, zero, suc}
 use mathlib.Core.List.{List, []}
 use Rattle.rules.specs.Text.{rows, fieldNo}
+use Rattle.rules.specs.Schema.{schemaOf}
+use Rattle.rules.specs.Graph.{graphOf}
 use Rattle.rules.specs.Tree.{field, Forest, none, node}
 use Rattle.rules.specs.World.{World, world, queryNode}
 use Rattle.rules.specs.Samples.{text}
@@ -29,7 +31,7 @@ abbrev pub graph : List ℕ
 graph = text "N 1/N 2/N 2/N 2/E 0 0 1 0/E 1 1 2 0/E 1 1 3 0/E 2 1 1 0/E 3 1 1 0/P 1 2 0 0 7/"
 
 abbrev pub people : World
-people = world (rows schema) (rows graph)
+people = world (schemaOf (rows schema)) (graphOf (rows graph))
 
 -- a field without arguments, over a selection; the response depends on no place and no level
 abbrev pub asking : ℕ → Forest → Forest
@@ -45,4 +47,4 @@ phi n = asking query (alpha n)
 
 -- ⟦φ_{n+1}⟧ from the query node u
 abbrev pub doubled : ℕ → List ℕ
-doubled n = eval people (phi n) (queryNode (rows schema) (rows graph))
+doubled n = eval people (phi n) (queryNode (schemaOf (rows schema)) (graphOf (rows graph)))

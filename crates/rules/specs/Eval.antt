@@ -8,7 +8,8 @@ use lib.ListN.{length}
 use mathlib.Core.List.{List, [], _∷_, _++_, List·Memᴰ}
 use Rattle.rules.specs.Lists.{each, any}
 use Rattle.rules.specs.Tree.{Asks, field, on, Entry, Forest, none, node}
-use Rattle.rules.specs.World.{World, Shape, scalar, list, single, Found, nothing, one, many}
+use Rattle.rules.specs.Graph.{Found, nothing, one, many}
+use Rattle.rules.specs.World.{World, Shape, scalar, list, single}
 
 -- ---- tokens
 

@@ -1,14 +1,14 @@
--- The graph that rows state over a schema s (Definition 2), and checks 21 to 27. Assumes nothing.
+-- What a graph says (Definition 2), what its rows say, and checks 21 to 27. Assumes nothing.
 use Prim.Native.Nat.{ℕ, _+_, _*_}
 use mathlib.Core.Bool.{Bool, true, false, _&&_, _||_, not}
-use mathlib.Core.List.{List, [], _∷_, _++_}
+use mathlib.Core.List.{List, [], _∷_, _++_, map}
 use mathlib.Core.Option.{Option}
 use lib.Dec.{ltb, eqb}
 use lib.ListN.{length, getD}
-use Rattle.rules.specs.Lists.{those, any, sumOf}
-use Rattle.rules.specs.Text.{Row, noRow, at, E, N, P, Pair, pairsOf, valuesOf, fieldNo, typeNo}
+use Rattle.rules.specs.Lists.{those, any, sumOf, countUp}
+use Rattle.rules.specs.Text.{Row, at, E, N, P, Pair, pairsOf, valuesOf, fieldNo, typeNo}
 use Rattle.rules.specs.Search.{_#_, testEach, given, Check, whole}
-use Rattle.rules.specs.Schema.{is, atMost, declaredField, declaredArg, fieldType, listMark, isList, argType, hasField, takesArg, compatible, queryType, isScalar, isObject, inRange}
+use Rattle.rules.specs.Schema.{Schema, is, nth, atMost, declaredField, declaredArg, fieldType, listMark, isList, argType, hasField, takesArg, compatible, queryType, isScalar, isObject, inRange}
 use Rattle.rules.specs.declared.FieldNo.{FieldNo}
 use Rattle.rules.specs.declared.TypeNo.{TypeNo}
 use Rattle.rules.specs.declared.Spot.{Spot}
@@ -29,18 +29,33 @@ samePairs (p ∷ ps) (q ∷ qs) = eqb (p .arg .0) (q .arg .0) && (eqb (p .value)
 abbrev pub sameLabel : Label → Label → Bool
 sameLabel a b = eqb (a .field .0) (b .field .0) && samePairs (a .args) (b .args)
 
--- ---- nodes, edges, properties
+-- ---- what a graph says
 
--- N: the nodes, numbered in the order of their records
-abbrev pub nodes : List Row → List Row
-nodes g = those (is N) g
+-- "A property lookup either finds one value row or answers that there is none": a single value, or a sequence.
+pub data Found : Type 0 where
+  nothing : Found
+  one : ℕ → Found
+  many : List ℕ → Found
 
-abbrev pub declaredNode : List Row → ℕ → Bool
-declaredNode g u = ltb u (length (nodes g))
+-- Definition 2's N, τ, λ and E, asked by number: how many nodes there are, a node's type, λ at a node and a label, and the targets
+-- of the edges from a node with a label in graph order. The checks and the evaluation ask nothing else of a graph.
+pub record Graph : Type 0 where
+  pub size : ℕ
+  pub typeOf : ℕ → TypeNo
+  pub lookup : ℕ → Label → Found
+  pub targets : ℕ → Label → List ℕ
 
--- τ: a node's type
-abbrev pub typeOf : List Row → ℕ → TypeNo
-typeOf g u = typeNo (at (getD (nodes g) u noRow) 0)
+abbrev pub declaredNode : Graph → ℕ → Bool
+declaredNode g u = ltb u (g .size)
+
+abbrev pub typeOf : Graph → ℕ → TypeNo
+typeOf g u = (g .typeOf) u
+
+-- the nodes of a type, in their order
+abbrev pub nodesOf : Graph → TypeNo → List ℕ
+nodesOf g t = those (λ u. eqb (typeOf g u .0) (t .0)) (countUp 0 (g .size))
+
+-- ---- what rows say
 
 -- "`E` from field to n pairs" and "`P` node field list n pairs values"
 abbrev pub source : Row → ℕ
@@ -65,12 +80,25 @@ edgeOf u l r = is E r && starts u l r
 abbrev pub propertyOf : ℕ → Label → Row → Bool
 propertyOf u l r = is P r && starts u l r
 
+abbrev pub foundIn : List Row → Found
+foundIn [] = nothing
+foundIn (p ∷ ps) = elim (eqb (at p 2) 1) [ true ↦ many (valuesOf p) | false ↦ one (getD (valuesOf p) 0 0) ]
+
+abbrev pub graphOf : List Row → Graph
+graphOf g =
+    record {
+      size = length (those (is N) g);
+      typeOf = λ u. typeNo (at (nth (is N) g u) 0);
+      lookup = λ u l. foundIn (those (propertyOf u l) g);
+      targets = λ u l. map target (those (edgeOf u l) g);
+    }
+
 -- an edge or a property
 abbrev pub isDatum : Row → Bool
 isDatum r = is E r || is P r
 
 -- the type of the field that an edge or a property has at its node
-abbrev pub typeAt : List Row → List Row → Row → TypeNo
+abbrev pub typeAt : Schema → Graph → Row → TypeNo
 typeAt s g r = fieldType s (typeOf g (source r)) (fieldOf r)
 
 -- ---- the checks
@@ -85,7 +113,7 @@ check21 before r after =
     ∷ []
 
 -- 22: "number not declared; `N` not of an object type"
-abbrev pub check22 : List Row → List Row → Check Row
+abbrev pub check22 : Schema → Graph → Check Row
 check22 s g before r after =
     given (is N r) ((2 # not (isObject s (typeNo (at r 0)))) ∷ [])
     ∷ given (isDatum r)
@@ -96,7 +124,7 @@ check22 s g before r after =
     ∷ []
 
 -- 23: "field not of the node's type; argument not of the field; argument value out of its scalar's range"
-abbrev pub check23 : List Row → List Row → Check Row
+abbrev pub check23 : Schema → Graph → Check Row
 check23 s g before r after =
     given (isDatum r)
     ((3 # not (hasField s (typeOf g (source r)) (fieldOf r)))
@@ -106,7 +134,7 @@ check23 s g before r after =
 
 -- 24: "edge: field's type is scalar, or target's type not compatible; property: field's type not scalar, list mark differs,
 -- value out of range"
-abbrev pub check24 : List Row → List Row → Check Row
+abbrev pub check24 : Schema → Graph → Check Row
 check24 s g before r after =
     given (is E r) ((3 # isScalar s (typeAt s g r)) ∷ (4 # not (compatible s (typeOf g (target r)) (typeAt s g r))) ∷ [])
     ∷ given (is P r)
@@ -119,7 +147,7 @@ check24 s g before r after =
 abbrev pub diverts : Row → Row → Bool
 diverts r e = is E e && (eqb (source e) (source r) && (eqb (fieldOf e .0) (fieldOf r .0) && not (eqb (target e) (target r))))
 
-abbrev pub check25 : List Row → List Row → Check Row
+abbrev pub check25 : Schema → Graph → Check Row
 check25 s g before r after =
     given (is E r && not (isList s (typeOf g (source r)) (fieldOf r))) ((0 # any (diverts r) before) ∷ []) ∷ []
 
@@ -131,5 +159,5 @@ check26 before r after =
     ∷ []
 
 -- 27: "not exactly one node of the query type"
-abbrev pub check27 : List Row → List Row → Option Spot
-check27 s g = whole (not (eqb (length (those (λ r. eqb (at r 0) (queryType s .0)) (nodes g))) 1))
+abbrev pub check27 : Schema → Graph → Option Spot
+check27 s g = whole (not (eqb (length (nodesOf g (queryType s))) 1))

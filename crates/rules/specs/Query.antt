@@ -8,7 +8,7 @@ use lib.ListN.{length}
 use Rattle.rules.specs.Lists.{isEmpty}
 use Rattle.rules.specs.Text.{Row, at, F, T, pairsOf, fieldNo, typeNo}
 use Rattle.rules.specs.Search.{_#_, testEach, given, Check, firstLine, whole, orElse}
-use Rattle.rules.specs.Schema.{is, declaredType, declaredField, declaredArg, fieldType, hasField, takesArg, queryType, isScalar, ownsFields}
+use Rattle.rules.specs.Schema.{Schema, is, declaredType, declaredField, declaredArg, fieldType, hasField, takesArg, queryType, isScalar, ownsFields}
 use Rattle.rules.specs.declared.FieldNo.{FieldNo}
 use Rattle.rules.specs.declared.TypeNo.{TypeNo}
 use Rattle.rules.specs.declared.Spot.{Spot}
@@ -50,7 +50,7 @@ abbrev pub check32 : List Row → Option Spot
 check32 q = orElse (whole (isEmpty q)) (firstLine steps q)
 
 -- 33: "number not declared; label above 255"
-abbrev pub check33 : List Row → Check Row
+abbrev pub check33 : Schema → Check Row
 check33 s before r after =
     given (is F r)
     ((3 # ltb 255 (shownAs r))
@@ -61,17 +61,17 @@ check33 s before r after =
 
 -- "The first context is the query type." A line at depth d stands in the context that the latest earlier line that is less
 -- deep hands down: "its children's context is the field's type", "A type condition's children have that type as context".
-abbrev pub handsDown : List Row → TypeNo → Row → TypeNo
+abbrev pub handsDown : Schema → TypeNo → Row → TypeNo
 handsDown s c e = elim (is F e) [ true ↦ fieldType s c (asked e) | false ↦ condition e ]
 
-abbrev pub context : List Row → ℕ → List Row → TypeNo
+abbrev pub context : Schema → ℕ → List Row → TypeNo
 context s d [] = queryType s
 context s d (e ∷ before) =
     elim (ltb (depth e) d) [ true ↦ handsDown s (context s (depth e) before) e | false ↦ context s d before ]
 
 -- 34: "A field needs a context that is object or interface and has it; its arguments must be the field's. A field of scalar
 -- type has no child; any other has at least one"; "A type condition on a scalar is 34."
-abbrev pub check34 : List Row → Check Row
+abbrev pub check34 : Schema → Check Row
 check34 s before r after =
     let c = context s (depth r) before in
     let leaf = isScalar s (fieldType s c (asked r)) in

@@ -1,11 +1,11 @@
--- The schema that rows state (Definition 1), and checks 11 to 16. Assumes nothing.
+-- What a schema says (Definition 1), what its rows say, and checks 11 to 16. Assumes nothing.
 use Prim.Native.Nat.{ℕ}
 use mathlib.Core.Bool.{Bool, _&&_, _||_, not}
-use mathlib.Core.List.{List, [], _∷_}
+use mathlib.Core.List.{List, [], _∷_, map}
 use mathlib.Core.Option.{Option}
 use lib.Dec.{leb, ltb, eqb}
 use lib.ListN.{length, getD}
-use Rattle.rules.specs.Lists.{those, any, among, sameNumbers}
+use Rattle.rules.specs.Lists.{those, any, among}
 use Rattle.rules.specs.Text.{Row, noRow, at, A, F, G, H, I, M, O, Q, S, U, fieldNo, argNo, typeNo}
 use Rattle.rules.specs.Search.{_#_, Tests, given, Check, whole}
 use Rattle.rules.specs.declared.FieldNo.{FieldNo}
@@ -13,7 +13,88 @@ use Rattle.rules.specs.declared.ArgNo.{ArgNo}
 use Rattle.rules.specs.declared.TypeNo.{TypeNo}
 use Rattle.rules.specs.declared.Spot.{Spot}
 
--- ---- what is declared: "Things are numbered from 0 in the order of their records"
+-- ---- what a schema says
+
+-- Definition 1's assignments, asked by number. The checks and the evaluation ask nothing else of a schema, wherever it is kept.
+pub record Schema : Type 0 where
+  -- a type's letter, 0 where it is not declared; "scalar type with values low to high"
+  pub kind : TypeNo → ℕ
+  pub low : TypeNo → ℕ
+  pub high : TypeNo → ℕ
+  -- types_S of a field and its list mark, asked at the type that owns the field
+  pub declaredField : FieldNo → Bool
+  pub fieldType : TypeNo → FieldNo → TypeNo
+  pub listMark : TypeNo → FieldNo → ℕ
+  -- types_S of an argument
+  pub declaredArg : ArgNo → Bool
+  pub argType : ArgNo → TypeNo
+  -- fields_S, "the type has the field", and all fields of a type
+  pub hasField : TypeNo → FieldNo → Bool
+  pub fieldsOf : TypeNo → List FieldNo
+  -- args_S, "the field takes the argument"
+  pub takesArg : FieldNo → ArgNo → Bool
+  -- union_S and implementation_S, "the union or interface has this object type", and whether it has any
+  pub hasMember : TypeNo → TypeNo → Bool
+  pub someMember : TypeNo → Bool
+  -- q_S
+  pub queryType : TypeNo
+
+module _ (s : Schema) where
+  abbrev pub kind : TypeNo → ℕ
+  kind t = (s .kind) t
+
+  abbrev pub fieldType : TypeNo → FieldNo → TypeNo
+  fieldType owner f = (s .fieldType) owner f
+
+  abbrev pub listMark : TypeNo → FieldNo → ℕ
+  listMark owner f = (s .listMark) owner f
+
+  abbrev pub hasField : TypeNo → FieldNo → Bool
+  hasField t f = (s .hasField) t f
+
+  abbrev pub takesArg : FieldNo → ArgNo → Bool
+  takesArg f a = (s .takesArg) f a
+
+  abbrev pub declaredType : TypeNo → Bool
+  declaredType t = among (kind t) (S ∷ O ∷ I ∷ U ∷ [])
+
+  abbrev pub declaredField : FieldNo → Bool
+  declaredField f = (s .declaredField) f
+
+  abbrev pub declaredArg : ArgNo → Bool
+  declaredArg a = (s .declaredArg) a
+
+  abbrev pub argType : ArgNo → TypeNo
+  argType a = (s .argType) a
+
+  abbrev pub queryType : TypeNo
+  queryType = s .queryType
+
+  abbrev pub isScalar : TypeNo → Bool
+  isScalar t = eqb (kind t) S
+
+  abbrev pub isObject : TypeNo → Bool
+  isObject t = eqb (kind t) O
+
+  -- an object or interface type, to which fields_S assigns fields
+  abbrev pub ownsFields : TypeNo → Bool
+  ownsFields t = among (kind t) (O ∷ I ∷ [])
+
+  -- a union or interface type, to which union_S or implementation_S assigns object types
+  abbrev pub hasMembers : TypeNo → Bool
+  hasMembers t = among (kind t) (U ∷ I ∷ [])
+
+  abbrev pub isList : TypeNo → FieldNo → Bool
+  isList owner f = eqb (listMark owner f) 1
+
+  abbrev pub inRange : TypeNo → ℕ → Bool
+  inRange t x = leb ((s .low) t) x && leb x ((s .high) t)
+
+  -- "Object type o is compatible with t when o is t, or an `M` record gives t the object o."
+  abbrev pub compatible : TypeNo → TypeNo → Bool
+  compatible o t = eqb (o .0) (t .0) || (s .hasMember) t o
+
+-- ---- what rows say: "Things are numbered from 0 in the order of their records"
 
 abbrev pub is : ℕ → Row → Bool
 is l r = eqb (r .letter) l
@@ -22,82 +103,37 @@ is l r = eqb (r .letter) l
 abbrev pub isType : Row → Bool
 isType r = among (r .letter) (S ∷ O ∷ I ∷ U ∷ [])
 
-abbrev pub typeRow : List Row → TypeNo → Row
-typeRow s t = getD (those isType s) (t .0) noRow
+-- the n-th row of a kind; noRow, which has no letter, stands for one that is not declared
+abbrev pub nth : (Row → Bool) → List Row → ℕ → Row
+nth p s n = getD (those p s) n noRow
 
-abbrev pub fieldRow : List Row → FieldNo → Row
-fieldRow s f = getD (those (is F) s) (f .0) noRow
+-- a record with the letter l and the numbers a and b
+abbrev pub states : ℕ → ℕ → ℕ → Row → Bool
+states l a b r = is l r && (eqb (at r 0) a && eqb (at r 1) b)
 
-abbrev pub argRow : List Row → ArgNo → Row
-argRow s a = getD (those (is A) s) (a .0) noRow
+-- a record with the letter l and the first number a
+abbrev pub begins : ℕ → ℕ → Row → Bool
+begins l a r = is l r && eqb (at r 0) a
 
-abbrev pub declaredType : List Row → TypeNo → Bool
-declaredType s t = isType (typeRow s t)
-
-abbrev pub declaredField : List Row → FieldNo → Bool
-declaredField s f = is F (fieldRow s f)
-
-abbrev pub declaredArg : List Row → ArgNo → Bool
-declaredArg s a = is A (argRow s a)
-
--- ---- kinds of types
-
-abbrev pub kind : List Row → TypeNo → ℕ
-kind s t = typeRow s t .letter
-
-abbrev pub isScalar : List Row → TypeNo → Bool
-isScalar s t = eqb (kind s t) S
-
-abbrev pub isObject : List Row → TypeNo → Bool
-isObject s t = eqb (kind s t) O
-
--- an object or interface type, to which fields_S assigns fields
-abbrev pub ownsFields : List Row → TypeNo → Bool
-ownsFields s t = among (kind s t) (O ∷ I ∷ [])
-
--- a union or interface type, to which union_S or implementation_S assigns object types
-abbrev pub hasMembers : List Row → TypeNo → Bool
-hasMembers s t = among (kind s t) (U ∷ I ∷ [])
-
--- values_S: "scalar type with values low to high"
-abbrev pub inRange : List Row → TypeNo → ℕ → Bool
-inRange s t x = leb (at (typeRow s t) 0) x && leb x (at (typeRow s t) 1)
-
--- ---- what is assigned
-
--- a record with the letter l and the numbers a and b stands in the schema
-abbrev pub stated : ℕ → ℕ → ℕ → List Row → Bool
-stated l a b s = any (λ r. is l r && sameNumbers (r .numbers) (a ∷ b ∷ [])) s
-
--- fields_S: "the type has the field"
-abbrev pub hasField : List Row → TypeNo → FieldNo → Bool
-hasField s t f = stated H (t .0) (f .0) s
-
--- args_S: "the field takes the argument"
-abbrev pub takesArg : List Row → FieldNo → ArgNo → Bool
-takesArg s f a = stated G (f .0) (a .0) s
-
--- types_S of a field, asked at the type that owns the field: 01's `F` record gives every owner the same
-abbrev pub fieldType : List Row → TypeNo → FieldNo → TypeNo
-fieldType s owner f = typeNo (at (fieldRow s f) 0)
-
-abbrev pub listMark : List Row → TypeNo → FieldNo → ℕ
-listMark s owner f = at (fieldRow s f) 1
-
-abbrev pub isList : List Row → TypeNo → FieldNo → Bool
-isList s owner f = eqb (listMark s owner f) 1
-
--- types_S of an argument
-abbrev pub argType : List Row → ArgNo → TypeNo
-argType s a = typeNo (at (argRow s a) 0)
-
--- "Object type o is compatible with t when o is t, or an `M` record gives t the object o."
-abbrev pub compatible : List Row → TypeNo → TypeNo → Bool
-compatible s o t = eqb (o .0) (t .0) || stated M (t .0) (o .0) s
-
--- q_S: "the query type"
-abbrev pub queryType : List Row → TypeNo
-queryType s = typeNo (at (getD (those (is Q) s) 0 noRow) 0)
+-- 01's `F` record gives every owner the same type and list mark.
+abbrev pub schemaOf : List Row → Schema
+schemaOf s =
+    record {
+      kind = λ t. nth isType s (t .0) .letter;
+      low = λ t. at (nth isType s (t .0)) 0;
+      high = λ t. at (nth isType s (t .0)) 1;
+      declaredField = λ f. is F (nth (is F) s (f .0));
+      fieldType = λ owner f. typeNo (at (nth (is F) s (f .0)) 0);
+      listMark = λ owner f. at (nth (is F) s (f .0)) 1;
+      declaredArg = λ a. is A (nth (is A) s (a .0));
+      argType = λ a. typeNo (at (nth (is A) s (a .0)) 0);
+      hasField = λ t f. any (states H (t .0) (f .0)) s;
+      fieldsOf = λ t. map (λ r. fieldNo (at r 1)) (those (begins H (t .0)) s);
+      takesArg = λ f a. any (states G (f .0) (a .0)) s;
+      hasMember = λ t o. any (states M (t .0) (o .0)) s;
+      someMember = λ t. any (begins M (t .0)) s;
+      queryType = typeNo (at (nth (is Q) s 0) 0);
+    }
 
 -- ---- the checks
 
@@ -118,7 +154,7 @@ check11 before r after =
 
 -- 12: "number not declared; `A` not of a scalar; `H` not on object or interface; `M` not union or interface with object;
 -- `Q` not object; low above high"
-abbrev pub check12 : List Row → Check Row
+abbrev pub check12 : Schema → Check Row
 check12 s before r after =
     given (is S r) ((3 # ltb (at r 1) (at r 0)) ∷ [])
     ∷ given (is F r) ((2 # not (declaredType s (typeNo (at r 0)))) ∷ [])
@@ -130,23 +166,18 @@ check12 s before r after =
     ∷ []
 
 -- 13: "same `H`, `G` or `M` record twice"
-abbrev pub sameRow : Row → Row → Bool
-sameRow r e = eqb (r .letter) (e .letter) && sameNumbers (r .numbers) (e .numbers)
-
 abbrev pub check13 : Check Row
-check13 before r after = given (among (r .letter) (H ∷ G ∷ M ∷ [])) ((0 # any (sameRow r) before) ∷ []) ∷ []
+check13 before r after =
+    given (among (r .letter) (H ∷ G ∷ M ∷ [])) ((0 # any (states (r .letter) (at r 0) (at r 1)) before) ∷ []) ∷ []
 
 -- 14: "an interface's field is missing from an object that its `M` names" (a union has no `H`, by 12)
-abbrev pub check14 : List Row → Check Row
+abbrev pub check14 : Schema → Check Row
 check14 s before r after =
-    given (is M r)
-    ((0 # any (λ h. is H h && (eqb (at h 0) (at r 0) && not (hasField s (typeNo (at r 1)) (fieldNo (at h 1))))) s) ∷ [])
-    ∷ []
+    given (is M r) ((0 # any (λ f. not (hasField s (typeNo (at r 1)) f)) ((s .fieldsOf) (typeNo (at r 0)))) ∷ []) ∷ []
 
 -- 15: "union with no object type"; its number is the count of the types before it
-abbrev pub check15 : List Row → Check Row
-check15 s before r after =
-    given (is U r) ((0 # not (any (λ m. is M m && eqb (at m 0) (length (those isType before))) s)) ∷ []) ∷ []
+abbrev pub check15 : Schema → Check Row
+check15 s before r after = given (is U r) ((0 # not ((s .someMember) (typeNo (length (those isType before))))) ∷ []) ∷ []
 
 -- 16: "not exactly one `Q`"
 abbrev pub check16 : List Row → Option Spot

@@ -6,7 +6,8 @@ use lib.Dec.{eqb}
 use lib.ListN.{length}
 use Rattle.rules.specs.Lists.{sumOf, times, countUp, oneIf}
 use Rattle.rules.specs.Tree.{Asks, field, on, Entry, Forest, none, node}
-use Rattle.rules.specs.World.{World, Shape, scalar, list, single, Found, nothing, one, many}
+use Rattle.rules.specs.Graph.{Found, nothing, one, many}
+use Rattle.rules.specs.World.{World, Shape, scalar, list, single}
 use Rattle.rules.specs.Eval.{next}
 
 -- ---- multiplicities

@@ -1,9 +1,7 @@
 -- Definition 4 on the tree: what check 34 says of the lines, said of the query. Assumes nothing.
 use mathlib.Core.Bool.{Bool, true, false, _&&_, not, Bool·beq}
-use mathlib.Core.List.{List}
 use Rattle.rules.specs.Lists.{all}
-use Rattle.rules.specs.Text.{Row}
-use Rattle.rules.specs.Schema.{fieldType, hasField, takesArg, isScalar, ownsFields, queryType}
+use Rattle.rules.specs.Schema.{Schema, fieldType, hasField, takesArg, isScalar, ownsFields}
 use Rattle.rules.specs.Graph.{Label}
 use Rattle.rules.specs.Tree.{Asks, field, on, Entry, Forest, none, node}
 use Rattle.rules.specs.declared.FieldNo.{FieldNo}
@@ -18,7 +16,7 @@ pub record Kinds : Type 0 where
   pub typed : TypeNo → FieldNo → TypeNo
   pub takes : FieldNo → ArgNo → Bool
 
-abbrev pub kinds : List Row → Kinds
+abbrev pub kinds : Schema → Kinds
 kinds s =
     record {
       isScalar = λ t. isScalar s t;

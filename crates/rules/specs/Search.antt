@@ -4,6 +4,8 @@ use mathlib.Core.Bool.{Bool, true, false}
 use mathlib.Core.List.{List, [], _∷_}
 use mathlib.Core.Option.{Option, none, some}
 use Rattle.rules.specs.declared.Spot.{Spot}
+use Rattle.rules.specs.declared.Fault.{Fault}
+use Rattle.rules.specs.declared.Fault.the-variants.{Fine, Field}
 
 -- A test of a line: the field that it is about, the letter being 1, or 0 where it is about the whole line, another line or
 -- something missing; and whether the line breaks it.
@@ -51,6 +53,11 @@ faultOf (t ∷ ts) = worse (faultIf (t .broken) (t .field)) (faultOf ts)
 abbrev pub fault : List Tests → Option ℕ
 fault [] = none
 fault (g ∷ gs) = worse (elim (g .applies) [ true ↦ faultOf (g .tests) | false ↦ none ]) (fault gs)
+
+-- The same as the code answers it.
+abbrev pub asFault : Option ℕ → Fault
+asFault none = Fine
+asFault (some f) = Field f
 
 -- A check: the tests of a line, given the earlier lines, the latest first, and the later ones.
 abbrev pub Check : Type 0 → Type 0

@@ -14,6 +14,12 @@ pub struct Spot {
     pub field: u32,
 }
 
+// What a check says of one line: nothing, or the field at fault.
+pub enum Fault {
+    Fine,
+    Field(u32),
+}
+
 // What a call returns: number, place, size, visits.
 pub struct Outcome {
     pub number: u32,

@@ -70,13 +70,13 @@ infix 90 _by_
 abbrev pub _by_ : ℕ → Option Spot → Numbered
 n by p = record { number = n; place = p }
 
--- "Checks run in ascending number, each over its whole text before the next begins". `short`: "a work area is too short".
-abbrev pub schemaChecks : Bool → Texts → List Numbered
-schemaChecks short x =
-    let s = schemaIn x in
-    let rs = schemaRows x in
-    2 by whole short
-    ∷ 10 by textForm schemaForms (x .schema)
+-- "Checks run in ascending number, each over its whole text before the next begins": those of a schema's text, those of a graph's
+-- and of a query's under a schema, and that of the evaluation.
+abbrev pub schemaChecks : List ℕ → List Numbered
+schemaChecks text =
+    let rs = rows text in
+    let s = schemaOf rs in
+    10 by textForm schemaForms text
     ∷ 11 by firstLine check11 rs
     ∷ 12 by firstLine (check12 s) rs
     ∷ 13 by firstLine check13 rs
@@ -85,12 +85,11 @@ schemaChecks short x =
     ∷ 16 by check16 rs
     ∷ []
 
-abbrev pub graphChecks : Texts → List Numbered
-graphChecks x =
-    let s = schemaIn x in
-    let g = graphIn x in
-    let rs = graphRows x in
-    20 by textForm graphForms (x .graph)
+abbrev pub graphChecks : Schema → List ℕ → List Numbered
+graphChecks s text =
+    let rs = rows text in
+    let g = graphOf rs in
+    20 by textForm graphForms text
     ∷ 21 by firstLine check21 rs
     ∷ 22 by firstLine (check22 s g) rs
     ∷ 23 by firstLine (check23 s g) rs
@@ -100,11 +99,10 @@ graphChecks x =
     ∷ 27 by check27 s g
     ∷ []
 
-abbrev pub queryChecks : Texts → List Numbered
-queryChecks x =
-    let s = schemaIn x in
-    let rs = queryRows x in
-    30 by textForm queryForms (x .query)
+abbrev pub queryChecks : Schema → List ℕ → List Numbered
+queryChecks s text =
+    let rs = rows text in
+    30 by textForm queryForms text
     ∷ 31 by firstLine check31 rs
     ∷ 32 by check32 rs
     ∷ 33 by firstLine (check33 s) rs
@@ -114,9 +112,11 @@ queryChecks x =
 abbrev pub evalChecks : Texts → List Numbered
 evalChecks x = 40 by whole (meetsFork (worldOf x) (treeOf x) (rootOf x)) ∷ []
 
--- what sizing and answering share
+-- What sizing and answering share. `short`: "a work area is too short".
 abbrev pub checks : Bool → Texts → List Numbered
-checks short x = schemaChecks short x ++ (graphChecks x ++ (queryChecks x ++ evalChecks x))
+checks short x =
+    2 by whole short
+    ∷ schemaChecks (x .schema) ++ (graphChecks (schemaIn x) (x .graph) ++ (queryChecks (schemaIn x) (x .query) ++ evalChecks x))
 
 -- 1: "room given is above 16,384 (answering only)"
 abbrev pub largestRoom : ℕ

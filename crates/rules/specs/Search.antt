@@ -77,6 +77,11 @@ module _ {A : Type 0} where
   abbrev pub firstLine : Check A → List A → Option Spot
   firstLine check rs = firstFrom check [] 1 rs
 
+-- A place as the code answers it: lines are counted from 1, so that line 0 says that no line offends.
+abbrev pub spotOr : Option Spot → Spot
+spotOr none = spot 0 0
+spotOr (some p) = p
+
 -- Place 0, where a whole text offends.
 abbrev pub whole : Bool → Option Spot
 whole true = some (spot 0 0)

@@ -6,12 +6,10 @@ use mathlib.Core.Bool.{Bool, true, false, cond, not, false≢true}
 use native.Mathlib.Omega.{arith}
 use lib.ListN.{length, getD}
 use borrow.Author.Tests.{not-false}
-use Rattle.rules.specs.Text.{fields, isNumber, leading, rowOf, row}
-use Rattle.rules.specs.Forms.{Form}
+use Rattle.rules.specs.Text.{isNumber, leading, rowOf}
 use Rattle.rules.proofs.Clean.{Each}
-use Rattle.rules.proofs.Sound.{Sound}
 use Rattle.text.specs.declared.Row.{Row}
-use Rattle.text.specs.Line.{lineAt, nextAt, padded, badField, isLetter, readRow, rowFrom, rowAt}
+use Rattle.text.specs.Line.{padded, badField, isLetter, readRow, rowFrom}
 
 -- ---- the first k numbers
 
@@ -42,33 +40,18 @@ unfolding isLetter
 no-letter h = false≢true h
 
 -- the row that the code hands on, of a letter and numbers
-abbrev wholeRow : ℕ → List ℕ → ℕ → Row
+abbrev pub wholeRow : ℕ → List ℕ → ℕ → Row
 wholeRow l ns n = record { letter = l; count = length ns; nums = padded 12 ns; bad = 0; ended = true; next = n }
 
 read-whole : (b : ℕ) (fs : List (List ℕ)) (n : ℕ) → badField 2 fs ≡ 0 → readRow b fs true n ≡ wholeRow b (leading fs) n
 unfolding readRow
 read-whole b fs n z = simp z
 
-fields-row : (ss : List (List ℕ)) (n : ℕ) → Each (λ f. not (isNumber f) ≡ false) (tail ss) → isLetter (rowOf ss .letter) ≡ true
+-- a line with a letter, which a newline ends: the row has every number, no bad field, and where the next line starts
+pub fields-row : (ss : List (List ℕ)) (n : ℕ) → Each (λ f. not (isNumber f) ≡ false) (tail ss) → isLetter (rowOf ss .letter) ≡ true
     → rowFrom ss true n ≡ wholeRow (rowOf ss .letter) (rowOf ss .numbers) n
 unfolding rowFrom
 fields-row [] n e h = absurd (no-letter h)
 fields-row ([] ∷ fs) n e h = absurd (no-letter h)
 fields-row ((b ∷ []) ∷ fs) n e h = simp h (read-whole b fs n (none-bad 2 fs e))
 fields-row ((b ∷ c ∷ s) ∷ fs) n e h = absurd (no-letter h)
-
--- of a sound line the row has every number, no bad field, and where the next line starts
-pub sound-row : (fs : List Form) (s : List ℕ) (at : ℕ) → Sound fs (lineAt s at) → isLetter (row (lineAt s at) .letter) ≡ true
-    → rowAt s at
-    ≡ record {
-      letter = row (lineAt s at) .letter;
-      count = length (row (lineAt s at) .numbers);
-      nums = padded 12 (row (lineAt s at) .numbers);
-      bad = 0;
-      ended = true;
-      next = nextAt s at;
-    }
-unfolding rowAt
-sound-row fs s at w h =
-    ap (λ (e : Bool). rowFrom (fields (lineAt s at .bytes)) e (nextAt s at)) (w .ended)
-    ∙ fields-row (fields (lineAt s at .bytes)) (nextAt s at) (w .numbers) h

@@ -1,0 +1,5 @@
+pub mod Rising
+pub mod Paired
+pub mod Copying
+pub mod Turning
+pub mod Judging

@@ -1,0 +1,105 @@
+-- Looking through the first n rows of a table, for any test of a row; then for the three tests of the code. Assumes nothing.
+use Prim.Native.Nat.{ℕ, suc, _+_, _*_, _-_, _≤_, _<_}
+use mathlib.Core.Path.{_≡_, refl, sym, _∙_}
+use mathlib.Core.List.{List, [], _∷_, map}
+use mathlib.Core.Bool.{Bool, true, false, not, _&&_, _||_}
+use native.Mathlib.Omega.{arith}
+use native.Mathlib.Numerals.{add-one, unary-clauses}
+use lib.ListN.{getD}
+use borrow.Author.Tests.{eq-eqb, ne-eqb, not-true, not-false}
+use Rattle.rules.specs.Lists.{any, those, keepIf, countUp}
+use Rattle.rules.specs.Text.{fieldNo}
+use Rattle.rules.specs.Schema.{hasField}
+use Rattle.rules.specs.declared.TypeNo.{TypeNo}
+use Rattle.tables.specs.Read.{cell, pairAt, firstAt, pairIn, firstIn, secondsIn, schemaAt}
+use Rattle.schema.specs.Faults.{lacks}
+
+module _ (p : ℕ → Bool) where
+  -- The loop of a search: the rows before j decide nothing.
+  unfoldable pub Left : ℕ → ℕ → Type 0
+  Left n j = any p (countUp 0 n) ≡ any p (countUp j (n - j))
+
+  pub left-all : (n : ℕ) → Left n 0
+  unfolding Left
+  left-all n = simp unary-clauses
+
+  one-more : (n j : ℕ) → j < n → n - j ≡ suc (n - (j + 1))
+  one-more n j h = omega arith
+
+  pub left-found : (n j : ℕ) → Left n j → j < n → p j ≡ true → any p (countUp 0 n) ≡ true
+  unfolding Left
+  left-found n j k h t = k ∙ simp (one-more n j h, t)
+
+  pub left-on : (n j : ℕ) → Left n j → j < n → p j ≡ false → Left n (j + 1)
+  unfolding Left
+  left-on n j k h t = k ∙ rw (one-more n j h, t, add-one j)
+
+  pub left-ended : (n j : ℕ) → Left n j → n ≤ j → any p (countUp 0 n) ≡ false
+  unfolding Left
+  left-ended n j k h = let z : n - j ≡ 0 = omega arith in k ∙ rw z
+
+-- a row of two numbers
+module _ (a : List ℕ) (base n x y j : ℕ) (b : Bool) where
+  pub pair-found : Left (pairAt a base x y) n j → j < n → b ≡ pairAt a base x y j → b ≡ true → true ≡ pairIn a base n x y
+  unfolding pairIn
+  pair-found k h e t = sym (left-found (pairAt a base x y) n j k h (sym e ∙ t))
+
+  pub pair-on : Left (pairAt a base x y) n j → j < n → b ≡ pairAt a base x y j → b ≡ false → Left (pairAt a base x y) n (j + 1)
+  pair-on k h e t = left-on (pairAt a base x y) n j k h (sym e ∙ t)
+
+pub pair-ended : (a : List ℕ) (base n x y j : ℕ) → Left (pairAt a base x y) n j → n ≤ j → false ≡ pairIn a base n x y
+unfolding pairIn
+pair-ended a base n x y j k h = sym (left-ended (pairAt a base x y) n j k h)
+
+pub ruleset pair-laws = (left-all, pair-found, pair-on, pair-ended)
+
+-- a row with one number
+module _ (a : List ℕ) (base n x j : ℕ) where
+  pub first-found : Left (firstAt a base x) n j → j < n → getD a (base + 3 * j + 1) 0 ≡ x → true ≡ firstIn a base n x
+  unfolding firstIn firstAt cell
+  first-found k h e = sym (left-found (firstAt a base x) n j k h (eq-eqb (getD a (base + 3 * j + 1) 0) x e))
+
+  pub first-on : Left (firstAt a base x) n j → j < n → (getD a (base + 3 * j + 1) 0 ≡ x → ⊥) → Left (firstAt a base x) n (j + 1)
+  unfolding firstAt cell
+  first-on k h e = left-on (firstAt a base x) n j k h (ne-eqb (getD a (base + 3 * j + 1) 0) x e)
+
+  pub first-ended : Left (firstAt a base x) n j → n ≤ j → false ≡ firstIn a base n x
+  unfolding firstIn
+  first-ended k h = sym (left-ended (firstAt a base x) n j k h)
+
+pub ruleset first-laws = (left-all, first-found, first-on, first-ended)
+
+-- a search through what a search has chosen is one search
+any-those : {A B : Type 0} (p : ℕ → Bool) (q : B → Bool) (g : ℕ → A) (h : A → B) (js : List ℕ) → any q (map h (map g (those p js))) ≡ any (λ j. p j && q (h (g j))) js
+any-those p q g h [] = refl
+any-those p q g h (j ∷ js) = kept (p j) (any-those p q g h js)
+  where
+    kept : (b : Bool) → any q (map h (map g (those p js))) ≡ any (λ i. p i && q (h (g i))) js → any q (map h (map g (keepIf b j (those p js)))) ≡ ((b && q (h (g j))) || any (λ i. p i && q (h (g i))) js)
+    kept true e = rw e
+    kept false e = e
+
+-- row j gives t a field that o has not
+unfoldable pub lacksAt : List ℕ → TypeNo → TypeNo → ℕ → Bool
+lacksAt a t o j = firstAt a 776 (t .0) j && not (hasField (schemaAt a) o (fieldNo (cell a (776 + 3 * j + 2))))
+
+pub lacks-any : (a : List ℕ) (t o : TypeNo) → lacks a t o ≡ any (lacksAt a t o) (countUp 0 (cell a 3))
+unfolding lacks lacksAt schemaAt secondsIn
+lacks-any a t o = any-those (firstAt a 776 (t .0)) _ _ fieldNo (countUp 0 (cell a 3))
+
+module _ (a : List ℕ) (t o : TypeNo) (j : ℕ) where
+  pub lacks-found : (b : Bool) → Left (lacksAt a t o) (cell a 3) j → j < cell a 3 → getD a (776 + 3 * j + 1) 0 ≡ t .0 → b ≡ hasField (schemaAt a) o (fieldNo (getD a (776 + 3 * j + 2) 0)) → b ≡ false → true ≡ lacks a t o
+  unfolding lacksAt firstAt cell
+  lacks-found b k h e f n = sym (lacks-any a t o ∙ left-found (lacksAt a t o) (cell a 3) j k h (simp (eq-eqb (getD a (776 + 3 * j + 1) 0) (t .0) e, ← f, n)))
+
+  pub lacks-other : Left (lacksAt a t o) (cell a 3) j → j < cell a 3 → (getD a (776 + 3 * j + 1) 0 ≡ t .0 → ⊥) → Left (lacksAt a t o) (cell a 3) (j + 1)
+  unfolding lacksAt firstAt cell
+  lacks-other k h e = left-on (lacksAt a t o) (cell a 3) j k h (simp (ne-eqb (getD a (776 + 3 * j + 1) 0) (t .0) e))
+
+  pub lacks-not : (b : Bool) → Left (lacksAt a t o) (cell a 3) j → j < cell a 3 → getD a (776 + 3 * j + 1) 0 ≡ t .0 → b ≡ hasField (schemaAt a) o (fieldNo (getD a (776 + 3 * j + 2) 0)) → b ≡ true → Left (lacksAt a t o) (cell a 3) (j + 1)
+  unfolding lacksAt firstAt cell
+  lacks-not b k h e f n = left-on (lacksAt a t o) (cell a 3) j k h (simp (eq-eqb (getD a (776 + 3 * j + 1) 0) (t .0) e, ← f, n))
+
+  pub lacks-ended : Left (lacksAt a t o) (cell a 3) j → cell a 3 ≤ j → false ≡ lacks a t o
+  lacks-ended k h = sym (lacks-any a t o ∙ left-ended (lacksAt a t o) (cell a 3) j k h)
+
+pub ruleset lacks-laws = (not-true, not-false, left-all, lacks-found, lacks-other, lacks-not, lacks-ended)

@@ -1,0 +1,175 @@
+-- Whole areas: cleared, then laid table by table, and the head last; at each step the next table has room. Assumes nothing.
+use Prim.Native.Nat.{ℕ, suc, _+_, _*_, _≤_, _<_}
+use native.Mathlib.Omega.{arith}
+use mathlib.Core.Path.{_≡_, ap, _∙_}
+use mathlib.Core.Bool.{Bool, true, false}
+use mathlib.Core.List.{List, [], _∷_}
+use lib.ListN.{length, set, replicate, length-replicate, length-set}
+use borrow.Author.Tests.{le-leb, lt-leb}
+use Rattle.rules.specs.Lists.{those, keepIf}
+use Rattle.rules.specs.Text.{Row, Q}
+use Rattle.rules.specs.Schema.{is}
+use Rattle.tables.specs.Layout.{laid, belongs, width, table, counted, allValues, schemaHead, schemaArea, nodeArea, propertyArea, valueArea, queryArea}
+use Rattle.tables.specs.Fill.{queriesIn, SchemaFits, GraphFits}
+use Rattle.tables.specs.declared.Queries.{Queries}
+use Rattle.tables.proofs.Laid.{laid-length}
+use Rattle.tables.proofs.Cells.{table-length}
+use Rattle.tables.proofs.Stores.{head-stored}
+
+-- ---- how long a table is
+
+module _ (k : ℕ) (rs : List Row) where
+  narrow-long : k ≤ 7 → length (table k 0 rs) ≡ 3 * counted k rs
+  unfolding width
+  narrow-long h = table-length k 0 rs ∙ simp (le-leb k 7 h)
+
+  wide-long : 7 < k → length (table k 0 rs) ≡ 14 * counted k rs
+  unfolding width
+  wide-long h = table-length k 0 rs ∙ simp (lt-leb k 7 h)
+
+those-most : (p : Row → Bool) (rs : List Row) → length (those p rs) ≤ length rs
+those-most p [] = omega arith
+those-most p (r ∷ rs) = go (those-most p rs) (p r)
+  where
+    go : length (those p rs) ≤ length rs → (b : Bool) → length (keepIf b r (those p rs)) ≤ suc (length rs)
+    go ih true = omega arith
+    go ih false = omega arith
+
+counted-most : (k : ℕ) (rs : List Row) → counted k rs ≤ length rs
+unfolding counted
+counted-most k rs = those-most (belongs k) rs
+
+-- ---- an area keeps its length
+
+cleared-long : (n : ℕ) (a : List ℕ) → a ≡ replicate n 0 → length a ≡ n
+cleared-long n a e = ap length e ∙ length-replicate n 0
+
+laid-long : (n base : ℕ) (xs a b : List ℕ) → length a ≡ n → base + length xs ≤ length a → b ≡ laid base xs a → length b ≡ n
+laid-long n base xs a b l h e = ap length e ∙ laid-length base xs a h ∙ l
+
+-- ---- one table: the properties, the values, the query's entries
+
+module _ (n : ℕ) (xs a₀ : List ℕ) (m : 8 + length xs ≤ n) (e₀ : a₀ ≡ replicate n 0) where
+  one-room : 8 + length xs ≤ length a₀
+  one-room = omega (arith, cleared-long n a₀ e₀)
+
+  module _ (a₁ : List ℕ) (e₁ : a₁ ≡ laid 8 xs a₀) where
+    one-long : length a₁ ≡ n
+    one-long = laid-long n 8 xs a₀ a₁ (cleared-long n a₀ e₀) one-room e₁
+
+    one-same : (v : ℕ) → length (set a₁ 0 v) ≡ n
+    one-same v = length-set a₁ 0 v ∙ one-long
+
+    one-laid : (v w : ℕ) → v ≡ w → set a₁ 0 v ≡ laid 0 (w ∷ []) (laid 8 xs (replicate n 0))
+    one-laid v w e =
+        let l = one-long in
+        head-stored (v ∷ []) a₁ (omega arith)
+        ∙ ap (λ (x : ℕ). laid 0 (x ∷ []) a₁) e
+        ∙ ap (laid 0 (w ∷ [])) (e₁ ∙ ap (laid 8 xs) e₀)
+
+module _ (rs : List Row) (n : ℕ) (f : GraphFits rs) where
+  module _ (m : 14344 ≤ n) (a₀ : List ℕ) (e₀ : a₀ ≡ replicate n 0) where
+    fits-9 : 8 + length (table 9 0 rs) ≤ n
+    fits-9 = let h = f .properties in omega (arith, wide-long 9 rs (omega arith))
+
+    pub property-room : 8 + length (table 9 0 rs) ≤ length a₀
+    property-room = one-room n (table 9 0 rs) a₀ fits-9 e₀
+
+    module _ (a₁ : List ℕ) (e₁ : a₁ ≡ laid 8 (table 9 0 rs) a₀) (v : ℕ) where
+      pub property-same : length (set a₁ 0 v) ≡ n
+      property-same = one-same n (table 9 0 rs) a₀ fits-9 e₀ a₁ e₁ v
+
+      pub property-laid : v ≡ counted 9 rs → set a₁ 0 v ≡ propertyArea n rs
+      unfolding propertyArea
+      property-laid e = one-laid n (table 9 0 rs) a₀ fits-9 e₀ a₁ e₁ v (counted 9 rs) e
+
+  module _ (m : 8200 ≤ n) (a₀ : List ℕ) (e₀ : a₀ ≡ replicate n 0) where
+    fits-values : 8 + length (allValues rs) ≤ n
+    fits-values = let h = f .values in omega arith
+
+    module _ (a₁ : List ℕ) (e₁ : a₁ ≡ laid 8 (allValues rs) a₀) (v : ℕ) where
+      pub value-same : length (set a₁ 0 v) ≡ n
+      value-same = one-same n (allValues rs) a₀ fits-values e₀ a₁ e₁ v
+
+      pub value-laid : v ≡ length (allValues rs) → set a₁ 0 v ≡ valueArea n rs
+      unfolding valueArea
+      value-laid e = one-laid n (allValues rs) a₀ fits-values e₀ a₁ e₁ v (length (allValues rs)) e
+
+module _ (rs : List Row) (n : ℕ) (f : length rs ≤ 256) (m : 3592 ≤ n) (a₀ : List ℕ) (e₀ : a₀ ≡ replicate n 0) where
+  fits-10 : 8 + length (table 10 0 rs) ≤ n
+  fits-10 = omega (arith, wide-long 10 rs (omega arith), counted-most 10 rs)
+
+  pub query-room : 8 + length (table 10 0 rs) ≤ length a₀
+  query-room = one-room n (table 10 0 rs) a₀ fits-10 e₀
+
+  module _ (a₁ : List ℕ) (e₁ : a₁ ≡ laid 8 (table 10 0 rs) a₀) (v : ℕ) where
+    pub query-same : length (set a₁ 0 v) ≡ n
+    query-same = one-same n (table 10 0 rs) a₀ fits-10 e₀ a₁ e₁ v
+
+    pub query-laid : v ≡ counted 10 rs → set a₁ 0 v ≡ queryArea n rs
+    unfolding queryArea
+    query-laid e = one-laid n (table 10 0 rs) a₀ fits-10 e₀ a₁ e₁ v (counted 10 rs) e
+
+-- ---- nodes and edges
+
+module _ (rs : List Row) (n : ℕ) (f : GraphFits rs) (m : 15880 ≤ n) (a₀ : List ℕ) (e₀ : a₀ ≡ replicate n 0) where
+  pub node-room : 8 + length (table 7 0 rs) ≤ length a₀
+  node-room = let h = f .nodes in omega (arith, cleared-long n a₀ e₀, narrow-long 7 rs (omega arith))
+
+  module _ (a₁ : List ℕ) (e₁ : a₁ ≡ laid 8 (table 7 0 rs) a₀) where
+    node-long : length a₁ ≡ n
+    node-long = laid-long n 8 (table 7 0 rs) a₀ a₁ (cleared-long n a₀ e₀) node-room e₁
+
+    pub edge-room : 1544 + length (table 8 0 rs) ≤ length a₁
+    edge-room = let h = f .edges in omega (arith, node-long, wide-long 8 rs (omega arith))
+
+    module _ (a₂ : List ℕ) (e₂ : a₂ ≡ laid 1544 (table 8 0 rs) a₁) where
+      pub edge-long : length a₂ ≡ n
+      edge-long = laid-long n 1544 (table 8 0 rs) a₁ a₂ node-long edge-room e₂
+
+      pub node-same : (v w : ℕ) → length (set (set a₂ 0 v) 1 w) ≡ n
+      node-same v w = length-set (set a₂ 0 v) 1 w ∙ length-set a₂ 0 v ∙ edge-long
+
+      pub node-laid : (v w : ℕ) → v ≡ counted 7 rs → w ≡ counted 8 rs → set (set a₂ 0 v) 1 w ≡ nodeArea n rs
+      unfolding nodeArea
+      node-laid v w p q =
+          let l = edge-long in
+          head-stored (v ∷ w ∷ []) a₂ (omega arith)
+          ∙ ap (λ (x : ℕ). laid 0 (x ∷ w ∷ []) a₂) p
+          ∙ ap (λ (x : ℕ). laid 0 (counted 7 rs ∷ x ∷ []) a₂) q
+          ∙ ap (laid 0 (counted 7 rs ∷ counted 8 rs ∷ [])) (e₂ ∙ ap (laid 1544 (table 8 0 rs)) (e₁ ∙ ap (laid 8 (table 7 0 rs)) e₀))
+
+-- ---- the schema
+
+-- in an area of length n each table has room at its place
+module _ (rs : List Row) (n : ℕ) (f : SchemaFits rs) (m : 9992 ≤ n) where
+  pub type-room : 8 + length (table 1 0 rs) ≤ n
+  type-room = let h = f .types in omega (arith, narrow-long 1 rs (omega arith))
+
+  pub field-room : 200 + length (table 2 0 rs) ≤ n
+  field-room = let h = f .fields in omega (arith, narrow-long 2 rs (omega arith))
+
+  pub arg-room : 584 + length (table 3 0 rs) ≤ n
+  arg-room = let h = f .args in omega (arith, narrow-long 3 rs (omega arith))
+
+  pub has-room : 776 + length (table 4 0 rs) ≤ n
+  has-room = let h = f .has in omega (arith, narrow-long 4 rs (omega arith))
+
+  pub takes-room : 3848 + length (table 5 0 rs) ≤ n
+  takes-room = let h = f .takes in omega (arith, narrow-long 5 rs (omega arith))
+
+  pub member-room : 6920 + length (table 6 0 rs) ≤ n
+  member-room = let h = f .members in omega (arith, narrow-long 6 rs (omega arith))
+
+-- cleared, three tables, three more, and the head
+pub schema-laid : (rs : List Row) (n : ℕ) (a₀ a₁ a₂ a₃ : List ℕ) (v₁ v₂ v₃ v₄ v₅ v₆ : ℕ) (q : Queries) → a₀ ≡ replicate n 0
+    → a₁ ≡ laid 584 (table 3 0 rs) (laid 200 (table 2 0 rs) (laid 8 (table 1 0 rs) a₀))
+    → a₂ ≡ laid 6920 (table 6 0 rs) (laid 3848 (table 5 0 rs) (laid 776 (table 4 0 rs) a₁))
+    → a₃ ≡ laid 0 (v₁ ∷ v₂ ∷ v₃ ∷ v₄ ∷ v₅ ∷ v₆ ∷ q .count ∷ q .first ∷ []) a₂
+    → v₁ ≡ counted 1 rs → v₂ ≡ counted 2 rs → v₃ ≡ counted 3 rs → v₄ ≡ counted 4 rs → v₅ ≡ counted 5 rs → v₆ ≡ counted 6 rs
+    → q ≡ queriesIn rs → a₃ ≡ schemaArea n rs
+unfolding schemaArea schemaHead queriesIn
+schema-laid rs n a₀ a₁ a₂ a₃ v₁ v₂ v₃ v₄ v₅ v₆ q e₀ e₁ e₂ e₃ p₁ p₂ p₃ p₄ p₅ p₆ p₇ =
+    e₃
+    ∙ ap (λ (x : Queries). laid 0 (v₁ ∷ v₂ ∷ v₃ ∷ v₄ ∷ v₅ ∷ v₆ ∷ x .count ∷ x .first ∷ []) a₂) p₇
+    ∙ cc

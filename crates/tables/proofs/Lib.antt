@@ -1,0 +1,17 @@
+pub mod Laid
+pub mod Those
+pub mod Cells
+pub mod Stores
+pub mod Belonging
+pub mod Turns
+pub mod Filling
+pub mod Asking
+pub mod Putting
+pub mod Valuing
+pub mod Laying
+pub mod Narrow
+pub mod Views
+pub mod Wide
+pub mod Labelling
+pub mod Areas
+pub mod Graphs

@@ -1,0 +1,97 @@
+-- `tables::fill_values` meets its contract. The loop's invariant: what is left to lay makes the values whole. Assumes nothing.
+use Prim.Native.Nat.{_-_}
+use mathlib.Core.Path.{refl}
+use native.Mathlib.Omega.{arith}
+use borrow.Author.Needs.{needs}
+use mir.Syntax.{w32}
+use mir.Val.{Fits}
+use lib.ListN.{length, getD}
+use Rattle.tables.proofs.Turns.{turn}
+use Rattle.tables.proofs.Valuing.{Valued, valued-start, valued-room, valued-on, valued-by, valued-count, valued-all}
+use Rattle.tables.proofs.fill_values.Statement.{statement}
+use Rattle.tables.proofs.fill_values.Tie as tie
+
+abbrev Inv-loop : tie.InvT-loop
+Inv-loop s area₀ base place₀ at₀ area place at = Valued s base area₀ area place at
+
+abbrev μ-loop : tie.MeasureT-loop
+μ-loop s area₀ base place₀ at₀ area place at = length s - at
+
+loop-holds : tie.Need-loop-holds Inv-loop μ-loop
+loop-holds c = valued-start _ _ _ (c .before .before .pre .1 .0) (c .before .before .pre .1 .1)
+
+read-row-requires : tie.Need-read-row-requires Inv-loop μ-loop
+read-row-requires c κs = search needs
+
+array-read-put-numbers : tie.Need-array-read-put-numbers Inv-loop μ-loop
+array-read-put-numbers c = search needs
+
+cast-put-numbers : tie.Need-cast-put-numbers Inv-loop μ-loop
+cast-put-numbers c = search needs
+
+mul-put-numbers : tie.Need-mul-put-numbers Inv-loop μ-loop
+mul-put-numbers c = let w : Fits w32 (getD (c .before .before .before .read-row .result .nums) 3 0) = search needs in omega arith
+
+add-put-numbers : tie.Need-add-put-numbers Inv-loop μ-loop
+add-put-numbers c = let w : Fits w32 (getD (c .before .before .before .read-row .result .nums) 3 0) = search needs in omega arith
+
+put-numbers-requires : tie.Need-put-numbers-requires Inv-loop μ-loop
+put-numbers-requires c κs =
+    let t = turn _ _ _ (c .before .before .before .before .before .before .loop .inv .plain) (c .before .before .before .before .before .loop-test .taken) (c .before .before .before .before .read-row .ensures) in
+    (c .before .before .before .before .before .loop-test .taken, (t .here, valued-room _ _ _ _ _ _ (c .before .before .before .before .before .before .loop .inv) _ t (c .before .before .if1 .taken) _ refl))
+
+loop-less : tie.Need-loop-less Inv-loop μ-loop
+loop-less c =
+    let t = turn _ _ _ (c .before .before .before .before .before .before .before .before .before .loop .inv .plain) (c .before .before .before .before .before .before .before .before .loop-test .taken) (c .before .before .before .before .before .before .before .read-row .ensures) in
+    let a = t .after in
+    let i = t .inside in
+    omega arith
+
+loop-again : tie.Need-loop-again Inv-loop μ-loop
+loop-again c =
+    let t = turn _ _ _ (c .before .before .before .before .before .before .before .before .before .loop .inv .plain) (c .before .before .before .before .before .before .before .before .loop-test .taken) (c .before .before .before .before .before .before .before .read-row .ensures) in
+    valued-on _ _ _ _ _ _ (c .before .before .before .before .before .before .before .before .before .loop .inv) _ t (c .before .before .before .before .before .if1 .taken) _ refl _ _ (c .before .before .put-numbers .ensures .0) (c .before .before .put-numbers .ensures .1)
+
+loop-less-2 : tie.Need-loop-less-2 Inv-loop μ-loop
+loop-less-2 c =
+    let t = turn _ _ _ (c .before .before .before .before .loop .inv .plain) (c .before .before .before .loop-test .taken) (c .before .before .read-row .ensures) in
+    let a = t .after in
+    let i = t .inside in
+    omega arith
+
+loop-again-2 : tie.Need-loop-again-2 Inv-loop μ-loop
+loop-again-2 c = valued-by _ _ _ _ _ _ (c .before .before .before .before .loop .inv) _ (turn _ _ _ (c .before .before .before .before .loop .inv .plain) (c .before .before .before .loop-test .taken) (c .before .before .read-row .ensures)) (c .if1 .left)
+
+sub-result : tie.Need-sub-result Inv-loop μ-loop
+sub-result c = omega arith
+
+cast-result : tie.Need-cast-result Inv-loop μ-loop
+cast-result c = omega (arith, c .before .before .before .before .pre .0)
+
+same-length : tie.Need-same-length Inv-loop μ-loop
+same-length c = c .before .loop .inv .same
+
+returns : tie.Need-returns Inv-loop μ-loop
+returns c = (omega (arith, valued-count _ _ _ _ _ _ (c .before .loop .inv) (c .loop-test .left)), valued-all _ _ _ _ _ _ (c .before .loop .inv) (c .loop-test .left))
+
+pub fill-values-spec : {M : Type 1} → statement M
+fill-values-spec =
+    tie.close
+    (tie.spec
+    Inv-loop
+    μ-loop
+    loop-holds
+    read-row-requires
+    array-read-put-numbers
+    cast-put-numbers
+    mul-put-numbers
+    add-put-numbers
+    put-numbers-requires
+    loop-less
+    loop-again
+    loop-less-2
+    loop-again-2
+    sub-result
+    cast-result
+    same-length
+    returns)

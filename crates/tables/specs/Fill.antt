@@ -1,0 +1,56 @@
+-- What filling a table asks of a text, and what it reads of a line. Assumes nothing.
+use Prim.Native.Nat.{ℕ, _+_, _*_, _-_, _≤_}
+use mathlib.Core.Path.{_≡_}
+use mathlib.Core.List.{List, [], _∷_}
+use mathlib.Core.Bool.{Bool, true, false, cond}
+use lib.ListN.{length, getD}
+use lib.Dec.{eqb, leb}
+use Rattle.rules.specs.Lists.{those}
+use Rattle.rules.specs.Text.{Line, fields, Row, row, at, P, Q}
+use Rattle.rules.specs.Schema.{is, nth}
+use Rattle.text.specs.Line.{padded, rowFrom}
+use Rattle.text.specs.declared.Row.{Row as Read}
+use Rattle.tables.specs.Layout.{counted, allValues}
+use Rattle.tables.specs.declared.Queries.{Queries}
+
+-- a row as the reader hands it on, where the next line starts at n
+unfoldable pub whole : Row → ℕ → Read
+whole r n =
+    record { letter = r .letter; count = length (r .numbers); nums = padded 12 (r .numbers); bad = 0; ended = true; next = n }
+
+-- A line that the reader reads to its end: every line of a text that keeps the text form.
+pub record Plain (l : Line) : Type 0 where
+  pub read : (n : ℕ) → rowFrom (fields (l .bytes)) (l .ended) n ≡ whole (row l) n
+
+-- a row of which only the letter counts
+unfoldable pub lettered : ℕ → Row
+lettered l = record { letter = l; numbers = [] }
+
+-- the cells of a row of table k, from what was read
+unfoldable pub cellsOf : ℕ → ℕ → Read → List ℕ
+cellsOf k start r =
+    cond (leb k 7) (r .letter ∷ getD (r .nums) 0 0 ∷ getD (r .nums) 1 0 ∷ [])
+    (cond (eqb k 9) (start ∷ r .count ∷ r .nums) (r .letter ∷ r .count ∷ r .nums))
+
+-- how many values a row has, from its letter, the count of its numbers and its n
+unfoldable pub valuesIn : ℕ → ℕ → ℕ → ℕ
+valuesIn l count n = cond (eqb l P) (count - (4 + 2 * n)) 0
+
+-- the Q records: how many there are, and the type that the first names
+unfoldable pub queriesIn : List Row → Queries
+queriesIn rs = record { count = length (those (is Q) rs); first = at (nth (is Q) rs 0) 0 }
+
+-- no maximum is passed (checks 11 and 21)
+pub record SchemaFits (rs : List Row) : Type 0 where
+  pub types : counted 1 rs ≤ 64
+  pub fields : counted 2 rs ≤ 128
+  pub args : counted 3 rs ≤ 64
+  pub has : counted 4 rs ≤ 1024
+  pub takes : counted 5 rs ≤ 1024
+  pub members : counted 6 rs ≤ 1024
+
+pub record GraphFits (rs : List Row) : Type 0 where
+  pub nodes : counted 7 rs ≤ 512
+  pub edges : counted 8 rs ≤ 1024
+  pub properties : counted 9 rs ≤ 1024
+  pub values : length (allValues rs) ≤ 8192

@@ -1,0 +1,269 @@
+-- What the code may ask at a line: the areas can be read, and the earlier lines stand in them. Assumes nothing.
+use Prim.Native.Nat.{ℕ, zero, suc, _+_, _*_, _≤_, _<_}
+use native.Mathlib.Omega.{arith}
+use mathlib.Core.Path.{_≡_, refl, sym, ap, _∙_, subst, subst₂}
+use mathlib.Core.Logic.{_⊎_, inl, inr}
+use mathlib.Core.Bool.{Bool, true, false, _&&_, _||_, not, cond, true≢false, false≢true}
+use mathlib.Core.List.{List, [], _∷_, _++_}
+use lib.ListN.{length, getD, drop}
+use lib.Dec.{eqb, ltb}
+use borrow.Author.Tests.{eq-eqb, ne-eqb, eqb-true, eqb-false}
+use Rattle.rules.specs.Lists.{among, any, sumOf}
+use Rattle.rules.specs.Text.{Row, at, row, rows, fieldNo, E, G, H, M, P}
+use Rattle.rules.specs.Schema.{isList}
+use Rattle.rules.proofs.Clean.{Each}
+use Rattle.rules.proofs.Sums.{sum-append}
+use Rattle.text.specs.declared.Row.{Row as Read}
+use Rattle.text.specs.Line.{lineAt, nextAt, rowAt, padded}
+use Rattle.text.proofs.Rows.{padded-at, padded-length}
+use Rattle.tables.specs.Layout.{belongs, counted, schemaArea, nodeArea, propertyArea, valueArea}
+use Rattle.tables.specs.Fill.{whole}
+use Rattle.tables.specs.Read.{cell, schemaAt}
+use Rattle.tables.proofs.Cells.{counted-append}
+use Rattle.tables.proofs.Areas.{edge-count, property-count}
+use Rattle.schema.specs.Held.{SchemaHeld}
+use Rattle.graph.specs.Faults.{nodesAt}
+use Rattle.graph.specs.Held.{NodesHeld, PropertiesHeld}
+use Rattle.search.specs.declared.Counts.{Counts}
+use Rattle.search.specs.Count.{countsOf, Within}
+use Rattle.search.specs.Search.{Areas, limit, pairBase, pairCount, SearchedFor, plainCheck, SchemaReady, GraphReady, Ready, GraphTestable, Testable, Clashable}
+use Rattle.search.proofs.Splitting.{Searched, by-11, by-12, by-13, by-14, by-15, by-21, by-22, by-23, by-24, by-25, by-26, by-31}
+use Rattle.search.proofs.DataSplit.{each-there}
+use Rattle.search.proofs.Sizes.{rows-numbers}
+use Rattle.search.proofs.Calls.{schema-held, nodes-held, properties-held}
+use Rattle.search.proofs.Looping.{Going, read-here, rows-split, within-here}
+
+-- ---- the numbers that the search is for
+
+-- what holds of each number of a list holds of any that is among them
+pick : (T : ℕ → Type 0) (n : ℕ) (ks : List ℕ) → Each T ks → among n ks ≡ true → T n
+pick T n [] e h = absurd (false≢true h)
+pick T n (k ∷ ks) e h = go (λ q. pick T n ks (e .1) q) (eqb n k) refl
+  where
+    go : (among n ks ≡ true → T n) → (t : Bool) → eqb n k ≡ t → T n
+    go ih true q = subst T (sym (eqb-true n k q)) (e .0)
+    go ih false q = ih (subst (λ (t : Bool). (t || among n ks) ≡ true) q h)
+
+pub searched : (n : ℕ) → SearchedFor n → Searched n
+unfolding SearchedFor
+searched n h =
+    pick Searched n (11 ∷ 12 ∷ 13 ∷ 14 ∷ 15 ∷ 21 ∷ 22 ∷ 23 ∷ 24 ∷ 25 ∷ 26 ∷ 31 ∷ [])
+    (by-11, (by-12, (by-13, (by-14, (by-15, (by-21, (by-22, (by-23, (by-24, (by-25, (by-26, (by-31, tt)))))))))))) h
+
+-- ---- the areas
+
+-- before any check but 11, 21 and 31 a schema is held
+pub schema-read : (n : ℕ) (rs : List Row) (x : Areas) → Ready n rs x → plainCheck n ≡ false → SchemaHeld (x .schema)
+unfolding Ready
+schema-read n rs x ready p = go (ltb n 20) refl
+  where
+    go : (t : Bool) → ltb n 20 ≡ t → SchemaHeld (x .schema)
+    go true q = let r = (ready .0) p q in subst SchemaHeld (sym (r .held)) (schema-held (length (x .schema)) rs (r .long) (r .fits))
+    go false q = (ready .1) p q .schema
+
+pub nodes-read : (rs : List Row) (x : Areas) → GraphReady rs x → NodesHeld (x .nodes)
+nodes-read rs x r = subst NodesHeld (sym (r .nodes)) (nodes-held (length (x .nodes)) rs (r .nodesLong) (r .fits) (r .formed))
+
+pub properties-read : (rs : List Row) (x : Areas) → GraphReady rs x → PropertiesHeld (x .properties) (x .values)
+properties-read rs x r =
+    subst₂ PropertiesHeld (sym (r .properties)) (sym (r .values))
+    (properties-held (length (x .properties)) (length (x .values)) rs (r .propertiesLong) (r .valuesLong) (r .fits) (r .formed))
+
+edges-counted : (rs : List Row) (x : Areas) → GraphReady rs x → cell (x .nodes) 1 ≡ counted 8 rs
+edges-counted rs x r = ap (λ (l : List ℕ). cell l 1) (r .nodes) ∙ edge-count (length (x .nodes)) rs (r .nodesLong) (r .fits)
+
+properties-counted : (rs : List Row) (x : Areas) → GraphReady rs x → cell (x .properties) 0 ≡ counted 9 rs
+properties-counted rs x r =
+    ap (λ (l : List ℕ). cell l 0) (r .properties) ∙ property-count (length (x .properties)) rs (r .propertiesLong) (r .fits)
+
+-- ---- at a line
+
+one-counted : (k : ℕ) (r : Row) (rs : List Row) → belongs k r ≡ true → counted k (r ∷ rs) ≡ suc (counted k rs)
+unfolding counted
+one-counted k r rs h = rw h
+
+fewer : (k : ℕ) (ps rs : List Row) → counted k ps ≤ counted k (ps ++ rs)
+fewer k ps rs = omega (arith, counted-append k ps rs)
+
+module _ (n : ℕ) (s : List ℕ) (x : Areas) (at : ℕ) (c : Counts) (g : Going n s x at c) (h : at < length s) (r : Read) (e : r ≡ rowAt s at)
+    (ready : Ready n (rows s) x) where
+  abbrev now : Row
+  now = row (lineAt s at)
+
+  abbrev rest : List Row
+  rest = rows (drop (nextAt s at) s)
+
+  is-whole : r ≡ whole now (nextAt s at)
+  is-whole = read-here n s x at c g h r e
+
+  all-rows : rows s ≡ g .ps ++ now ∷ rest
+  all-rows = rows-split n s x at c g h r e
+
+  letter-is : r .letter ≡ now .letter
+  unfolding whole
+  letter-is = ap (λ (q : Read). q .letter) is-whole
+
+  nums-are : r .nums ≡ padded 12 (now .numbers)
+  unfolding whole
+  nums-are = ap (λ (q : Read). q .nums) is-whole
+
+  nums-long : length (r .nums) ≡ 12
+  nums-long = ap length nums-are ∙ padded-length 12 (now .numbers)
+
+  count-small : r .count ≤ length s
+  unfolding whole
+  count-small =
+      let c1 : r .count ≡ length (now .numbers) = ap (λ (q : Read). q .count) is-whole in
+      let t1 = ap (sumOf (λ (q : Row). length (q .numbers))) all-rows in
+      let t2 = sum-append (λ (q : Row). length (q .numbers)) (g .ps) (now ∷ rest) in
+      omega (arith, rows-numbers s)
+
+  few-here : GraphReady (rows s) x → getD (r .nums) 3 0 ≤ 4
+  few-here gr =
+      let k = each-there (λ q. Rattle.rules.specs.Text.at q 3 ≤ 4) (g .ps) now rest (subst (λ (l : List Row). Each (λ q. Rattle.rules.specs.Text.at q 3 ≤ 4) l) all-rows (gr .few)) in
+      let t : getD (r .nums) 3 0 ≡ Rattle.rules.specs.Text.at now 3 = ap (λ (l : List ℕ). getD l 3 0) nums-are ∙ padded-at 12 (now .numbers) 3 (omega arith) in
+      omega arith
+
+  -- this line is one more property than those before it
+  place-here : GraphReady (rows s) x → r .letter ≡ P → c .properties < cell (x .properties) 0
+  unfolding countsOf belongs
+  place-here gr q =
+      let is : belongs 9 now ≡ true = eq-eqb (now .letter) P (sym letter-is ∙ q) in
+      let c1 : c .properties ≡ counted 9 (g .ps) = ap (λ (w : Counts). w .properties) (g .counts) in
+      let c2 = properties-counted (rows s) x gr in
+      let c3 = ap (counted 9) all-rows in
+      omega (arith, counted-append 9 (g .ps) (now ∷ rest), one-counted 9 now rest is)
+
+  graph-testable : GraphReady (rows s) x → GraphTestable x c r
+  graph-testable gr =
+      record {
+        schema = gr .schema;
+        nodes = nodes-read (rows s) x gr;
+        properties = properties-read (rows s) x gr;
+        most = gr .valuesMost;
+        long = nums-long;
+        few = few-here gr;
+        place = place-here gr;
+      }
+
+  within-small : length s ≤ 65535 → Within 65535 c
+  within-small l =
+      let w = within-here n s x at c g h r e in
+      record {
+        types = omega (arith, w .types);
+        fields = omega (arith, w .fields);
+        args = omega (arith, w .args);
+        has = omega (arith, w .has);
+        takes = omega (arith, w .takes);
+        members = omega (arith, w .members);
+        nodes = omega (arith, w .nodes);
+        edges = omega (arith, w .edges);
+        properties = omega (arith, w .properties);
+        values = omega (arith, w .values);
+        lines = omega (arith, w .lines);
+      }
+
+  pub testable : length s ≤ 65535 → Testable n x c r
+  unfolding Ready
+  testable l =
+      record {
+        long = nums-long;
+        count = omega (arith, count-small);
+        counts = within-small l;
+        schema = schema-read n (rows s) x ready;
+        graph = λ p q. graph-testable ((ready .1) p q);
+      }
+
+  -- ---- an earlier line
+
+  -- as many earlier lines of a kind as have been counted stand in its table
+  counted-within : (k : ℕ) → counted k (g .ps) ≤ counted k (rows s)
+  counted-within k = subst (λ (l : List Row). counted k (g .ps) ≤ counted k l) (sym all-rows) (fewer k (g .ps) (now ∷ rest))
+
+  edges-within : GraphReady (rows s) x → (j : ℕ) → j < c .edges → j < cell (x .nodes) 1
+  unfolding countsOf
+  edges-within gr j k =
+      let c1 : c .edges ≡ counted 8 (g .ps) = ap (λ (w : Counts). w .edges) (g .counts) in
+      omega (arith, counted-within 8, edges-counted (rows s) x gr)
+
+  properties-within : GraphReady (rows s) x → (j : ℕ) → j < c .properties → j < cell (x .properties) 0
+  unfolding countsOf
+  properties-within gr j k =
+      let c1 : c .properties ≡ counted 9 (g .ps) = ap (λ (w : Counts). w .properties) (g .counts) in
+      omega (arith, counted-within 9, properties-counted (rows s) x gr)
+
+  -- of 13: the pair stands inside the schema's area
+  pair-within : SchemaReady (rows s) x → (j : ℕ) → j < pairCount c (r .letter) → (pairBase (r .letter) + 3 * j + 2 < length (x .schema)) × (j ≤ 1024)
+  unfolding countsOf pairCount pairBase
+  pair-within sr j k = go (eqb (r .letter) H) (eqb (r .letter) G) (eqb (r .letter) M) refl refl refl
+    where
+      l : 9992 ≤ length (x .schema)
+      l = sr .long
+
+      hc : c .has ≤ 1024
+      hc = let q = ap (λ (w : Counts). w .has) (g .counts) in omega (arith, counted-within 4, sr .fits .has)
+
+      gc : c .takes ≤ 1024
+      gc = let q = ap (λ (w : Counts). w .takes) (g .counts) in omega (arith, counted-within 5, sr .fits .takes)
+
+      mc : c .members ≤ 1024
+      mc = let q = ap (λ (w : Counts). w .members) (g .counts) in omega (arith, counted-within 6, sr .fits .members)
+
+      go : (a b d : Bool) → eqb (r .letter) H ≡ a → eqb (r .letter) G ≡ b → eqb (r .letter) M ≡ d
+          → (pairBase (r .letter) + 3 * j + 2 < length (x .schema)) × (j ≤ 1024)
+      go true b d p q w = let y : j < c .has = simp p at k in simp p (omega (arith, l, hc), omega (arith, hc))
+      go false true d p q w = let y : j < c .takes = simp (p, q) at k in simp (p, q) (omega (arith, l, gc), omega (arith, gc))
+      go false false true p q w = let y : j < c .members = simp (p, q, w) at k in simp (p, q) (omega (arith, l, mc), omega (arith, mc))
+      go false false false p q w = let y : j < 0 = simp (p, q, w) at k in absurd (omega arith)
+
+  -- what a clash with the j-th earlier line asks, check by check
+  clash-13 : SchemaReady (rows s) x → (j : ℕ) → j < pairCount c (r .letter) → Clashable 13 x r j
+  clash-13 sr j k =
+      record {
+        long = nums-long;
+        pair = λ _. pair-within sr j k;
+        edge = λ no. absurd (no refl);
+        inside = λ no _. absurd (no refl);
+        within = λ no _ _. absurd (no refl);
+      }
+
+  clash-graph : (m : ℕ) → (m ≡ 13 → ⊥) → GraphReady (rows s) x → (j : ℕ) → ((m ≡ 25) ⊎ (r .letter ≡ E) → j < c .edges)
+      → ((m ≡ 25 → ⊥) → (r .letter ≡ E → ⊥) → j < c .properties) → Clashable m x r j
+  clash-graph m not13 gr j edge property =
+      record {
+        long = nums-long;
+        pair = λ q. absurd (not13 q);
+        edge = λ _. (nodes-read (rows s) x gr, properties-read (rows s) x gr, few-here gr);
+        inside = λ _ q. edges-within gr j (edge q);
+        within = λ _ a b. properties-within gr j (property a b);
+      }
+
+-- the limit of 25 and 26, taken apart
+edge-limit : (b : Bool) (m j : ℕ) → j < cond b m 0 → j < m
+edge-limit true m j k = k
+edge-limit false m j k = absurd (omega arith)
+
+module _ (s : List ℕ) (x : Areas) (at : ℕ) (c : Counts) (r : Read) (h : at < length s) (e : r ≡ rowAt s at) (j : ℕ) where
+  datum-edge : j < cond (eqb (r .letter) E) (c .edges) (cond (eqb (r .letter) P) (c .properties) 0) → r .letter ≡ E → j < c .edges
+  datum-edge k q = simp (eq-eqb (r .letter) E q) at k
+
+  datum-property : j < cond (eqb (r .letter) E) (c .edges) (cond (eqb (r .letter) P) (c .properties) 0) → (r .letter ≡ E → ⊥) → j < c .properties
+  datum-property k q = edge-limit (eqb (r .letter) P) (c .properties) j (simp (ne-eqb (r .letter) E q) at k)
+
+  pub clashable : (n : ℕ) → Searched n → Going n s x at c → Ready n (rows s) x → j < limit n x c r → Clashable n x r j
+  unfolding limit Ready plainCheck
+  clashable n by-11 g ready k = absurd (omega arith)
+  clashable n by-12 g ready k = absurd (omega arith)
+  clashable n by-13 g ready k = clash-13 13 s x at c g h r e ready ((ready .0) refl refl) j k
+  clashable n by-14 g ready k = absurd (omega arith)
+  clashable n by-15 g ready k = absurd (omega arith)
+  clashable n by-21 g ready k = absurd (omega arith)
+  clashable n by-22 g ready k = absurd (omega arith)
+  clashable n by-23 g ready k = absurd (omega arith)
+  clashable n by-24 g ready k = absurd (omega arith)
+  clashable n by-25 g ready k =
+      clash-graph 25 s x at c g h r e ready 25 (λ q. omega arith) ((ready .1) refl refl) j (λ _. edge-limit (eqb (r .letter) E && not (isList (schemaAt (x .schema)) ((nodesAt (x .nodes) .typeOf) (getD (r .nums) 0 0)) (fieldNo (getD (r .nums) 1 0)))) (c .edges) j k) (λ no _. absurd (no refl))
+  clashable n by-26 g ready k =
+      clash-graph 26 s x at c g h r e ready 26 (λ q. omega arith) ((ready .1) refl refl) j
+      (elim [ inl q ↦ absurd (omega arith) | inr q ↦ datum-edge k q ]) (λ _ q. datum-property k q)
+  clashable n by-31 g ready k = absurd (omega arith)

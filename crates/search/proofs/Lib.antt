@@ -1,0 +1,13 @@
+pub mod Groups
+pub mod PlainSplit
+pub mod SchemaSplit
+pub mod GraphSplit
+pub mod DataSplit
+pub mod Splitting
+pub mod Sizes
+pub mod Counting
+pub mod Calls
+pub mod Looping
+pub mod Asking
+pub mod Plainly
+pub mod Dispatch

@@ -1,0 +1,4 @@
+pub mod Fitting
+pub mod Entering
+pub mod Judging
+pub mod SchemaJudging

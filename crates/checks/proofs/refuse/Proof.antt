@@ -1,0 +1,14 @@
+use mathlib.Core.Path.{refl}
+use Rattle.checks.specs.Verdict.{refusedBy}
+use Rattle.checks.proofs.refuse.Statement.{statement}
+use Rattle.checks.proofs.refuse.Tie as tie
+use Rattle.checks.proofs.refuse.Reads as reads
+use Rattle.checks.proofs.refuse.Lts as lts
+
+-- src/lib.rt:21:1
+returns : tie.Need-returns
+unfolding refusedBy
+returns c = refl
+
+pub refuse-spec : {M : Type 1} → statement M
+refuse-spec = tie.close (tie.spec returns)

@@ -1,0 +1,58 @@
+-- The verdict on a text: the number and the spot of the first check that is offended. Assumes nothing.
+use Prim.Native.Nat.{ℕ}
+use mathlib.Core.List.{List, [], _∷_, _++_}
+use mathlib.Core.Bool.{Bool}
+use mathlib.Core.Path.{_≡_}
+use lib.ListN.{length}
+use Rattle.rules.specs.Search.{firstLine, spot, whole}
+use Rattle.rules.specs.Text.{rows}
+use Rattle.rules.specs.Schema.{Schema, schemaOf, check12, check13, check14, check15, check16}
+use Rattle.rules.specs.Graph.{Graph, graphOf, check22, check23, check24, check25, check26, check27}
+use Rattle.rules.specs.Answer.{Texts, Numbered, _by_, verdict, schemaIn, schemaChecks, graphChecks, queryChecks}
+use Rattle.rules.specs.declared.Spot.{Spot}
+use Rattle.tables.specs.Layout.{schemaArea}
+use Rattle.checks.specs.declared.Verdict.{Verdict}
+
+-- "number 0, place 0" where none is offended
+unfoldable pub refusedBy : ℕ → Spot → Verdict
+refusedBy n p = record { number = n; spot = p }
+
+unfoldable pub judged : List Numbered → Verdict
+judged cs = verdict refusedBy (refusedBy 0 (spot 0 0)) cs
+
+-- the checks of a schema's text behind 11, and of a graph's behind 21
+unfoldable pub laterSchema : List ℕ → List Numbered
+laterSchema text =
+    let rs = rows text in
+    let s = schemaOf rs in
+    12 by firstLine (check12 s) rs
+    ∷ 13 by firstLine check13 rs
+    ∷ 14 by firstLine (check14 s) rs
+    ∷ 15 by firstLine (check15 s) rs
+    ∷ 16 by check16 rs
+    ∷ []
+
+unfoldable pub laterGraph : Schema → List ℕ → List Numbered
+laterGraph s text =
+    let rs = rows text in
+    let g = graphOf rs in
+    22 by firstLine (check22 s g) rs
+    ∷ 23 by firstLine (check23 s g) rs
+    ∷ 24 by firstLine (check24 s g) rs
+    ∷ 25 by firstLine (check25 s g) rs
+    ∷ 26 by firstLine check26 rs
+    ∷ 27 by check27 s g
+    ∷ []
+
+-- the checks of all three texts, 2 before them: everything but the evaluation's
+unfoldable pub textChecks : Bool → Texts → List Numbered
+textChecks short x =
+    2 by whole short ∷ schemaChecks (x .schema) ++ (graphChecks (schemaIn x) (x .graph) ++ queryChecks (schemaIn x) (x .query))
+
+-- ---- what a verdict leaves
+
+-- of a schema's text, in an area of length n: where it is accepted, the area holds the schema's tables, followed by zeros
+pub record SchemaJudged (text : List ℕ) (n : ℕ) (area : List ℕ) (v : Verdict) : Type 0 where
+  pub is : v ≡ judged (schemaChecks text)
+  pub long : length area ≡ n
+  pub held : v .number ≡ 0 → area ≡ schemaArea n (rows text)

@@ -1,0 +1,263 @@
+-- The verdict on three texts from those on each. Assumes nothing.
+use Prim.Native.Nat.{ℕ, _≤_, _<_}
+use native.Mathlib.Omega.{arith}
+use mathlib.Core.Path.{_≡_, refl, sym, ap, _∙_, subst}
+use mathlib.Core.Bool.{Bool, true, false, _||_, or-false, true≢false}
+use mathlib.Core.List.{List, [], _∷_, _++_}
+use mathlib.Core.Option.{Option, none, some}
+use lib.Dec.{ltb}
+use lib.ListN.{length, take, drop}
+use lib.Seq.{take-all, take-append-le, length-take-le}
+use borrow.Author.Tests.{le-ltb, lt-ltb, ltb-false}
+use Rattle.rules.specs.Text.{rows}
+use Rattle.rules.specs.Search.{spot, whole}
+use Rattle.rules.specs.Schema.{Schema, schemaOf}
+use Rattle.rules.specs.Answer.{Texts, Numbered, _by_, verdict, schemaIn, schemaChecks, graphChecks, queryChecks}
+use Rattle.rules.specs.declared.Spot.{Spot}
+use Rattle.rules.proofs.Clean.{Each}
+use Rattle.tables.specs.Layout.{schemaArea, nodeArea, propertyArea, valueArea, queryArea}
+use Rattle.tables.specs.Read.{schemaAt}
+use Rattle.tables.specs.Fill.{SchemaFits}
+use Rattle.tables.proofs.Views.{schema-view}
+use Rattle.schema.specs.Held.{SchemaHeld}
+use Rattle.search.proofs.Calls.{schema-held}
+use Rattle.checks.specs.declared.Verdict.{Verdict}
+use Rattle.checks.specs.Verdict.{refusedBy, judged, textChecks, SchemaJudged}
+use Rattle.checks.proofs.Judging.{judged-at, judged-past}
+use Rattle.checks.proofs.Fitting.{schema-fits}
+use Rattle.graph_text.specs.GraphVerdict.{GraphJudged}
+use Rattle.query_text.specs.QueryVerdict.{QueryJudged}
+use Rattle.judge.specs.Texts.{texts, Lent, lent, workAreas, tooShortOf, Holding, Judged}
+
+-- ---- the first check of two lists of checks
+
+abbrev Passes : Numbered → Type 0
+Passes c = c .place ≡ none
+
+abbrev Positive : Numbered → Type 0
+Positive c = 0 < c .number
+
+-- number 0 says that every check is passed, for no check has the number 0
+passed : (cs : List Numbered) → Each Positive cs → judged cs .number ≡ 0 → Each Passes cs
+unfolding refusedBy
+passed [] p h = tt
+passed (c ∷ cs) p h = go (λ k. passed cs (p .1) k) (c .place) refl
+  where
+    go : (judged cs .number ≡ 0 → Each Passes cs) → (o : Option Spot) → c .place ≡ o → Each Passes (c ∷ cs)
+    go rest none e = (e, rest (ap (λ (v : Verdict). v .number) (sym (judged-past (c .number) (c .place) cs e)) ∙ h))
+    go rest (some s) e = absurd (omega (arith, p .0, ap (λ (v : Verdict). v .number) (sym (judged-at (c .number) (c .place) cs s e)) ∙ h))
+
+-- a refusal by the first list decides
+front : (cs ds : List Numbered) → (judged cs .number ≡ 0 → ⊥) → judged (cs ++ ds) ≡ judged cs
+unfolding judged refusedBy
+front [] ds h = absurd (h refl)
+front (c ∷ cs) ds h = go (λ k. front cs ds k) (c .place) refl
+  where
+    go : ((judged cs .number ≡ 0 → ⊥) → judged (cs ++ ds) ≡ judged cs) → (o : Option Spot) → c .place ≡ o → judged (c ∷ (cs ++ ds)) ≡ judged (c ∷ cs)
+    go rest none e =
+        let past = judged-past (c .number) (c .place) cs e in
+        judged-past (c .number) (c .place) (cs ++ ds) e
+        ∙ rest (λ z. h (ap (λ (v : Verdict). v .number) past ∙ z))
+        ∙ sym past
+    go rest (some s) e = judged-at (c .number) (c .place) (cs ++ ds) s e ∙ sym (judged-at (c .number) (c .place) cs s e)
+
+-- where the first list is passed, the second decides
+behind : (cs ds : List Numbered) → Each Passes cs → judged (cs ++ ds) ≡ judged ds
+behind [] ds h = refl
+behind (c ∷ cs) ds h = judged-past (c .number) (c .place) (cs ++ ds) (h .0) ∙ behind cs ds (h .1)
+
+-- ---- the numbers of the checks
+
+schema-numbers : (s : List ℕ) → Each Positive (schemaChecks s)
+schema-numbers s = (omega arith, (omega arith, (omega arith, (omega arith, (omega arith, (omega arith, (omega arith, tt)))))))
+
+graph-numbers : (t : Schema) (s : List ℕ) → Each Positive (graphChecks t s)
+graph-numbers t s =
+    (omega arith, (omega arith, (omega arith, (omega arith, (omega arith, (omega arith, (omega arith, (omega arith, tt))))))))
+
+-- ---- the areas
+
+pub enough : (w : Lent) → 9992 ≤ length (w .schema) → 15880 ≤ length (w .nodes) → 14344 ≤ length (w .properties) → 8200 ≤ length (w .values)
+    → 3592 ≤ length (w .query) → tooShortOf w ≡ false
+unfolding tooShortOf workAreas
+enough w a g p v q =
+    rw (
+      le-ltb (length (w .schema)) 9992 a,
+      le-ltb (length (w .nodes)) 15880 g,
+      le-ltb (length (w .properties)) 14344 p,
+      le-ltb (length (w .values)) 8200 v,
+      le-ltb (length (w .query)) 3592 q,
+    )
+
+-- the first area that is too short
+module _ (w : Lent) where
+  pub short-schema : length (w .schema) < 9992 → true ≡ tooShortOf w
+  unfolding tooShortOf workAreas
+  short-schema h = rw (lt-ltb (length (w .schema)) 9992 h)
+
+  module _ (a : 9992 ≤ length (w .schema)) where
+    pub short-nodes : length (w .nodes) < 15880 → true ≡ tooShortOf w
+    unfolding tooShortOf workAreas
+    short-nodes h = rw (le-ltb (length (w .schema)) 9992 a, lt-ltb (length (w .nodes)) 15880 h)
+
+    module _ (g : 15880 ≤ length (w .nodes)) where
+      pub short-properties : length (w .properties) < 14344 → true ≡ tooShortOf w
+      unfolding tooShortOf workAreas
+      short-properties h =
+          rw (le-ltb (length (w .schema)) 9992 a, le-ltb (length (w .nodes)) 15880 g, lt-ltb (length (w .properties)) 14344 h)
+
+      module _ (p : 14344 ≤ length (w .properties)) where
+        pub short-values : length (w .values) < 8200 → true ≡ tooShortOf w
+        unfolding tooShortOf workAreas
+        short-values h =
+            rw (
+              le-ltb (length (w .schema)) 9992 a,
+              le-ltb (length (w .nodes)) 15880 g,
+              le-ltb (length (w .properties)) 14344 p,
+              lt-ltb (length (w .values)) 8200 h,
+            )
+
+        pub short-query : 8200 ≤ length (w .values) → ltb (length (w .query)) 3592 ≡ tooShortOf w
+        unfolding tooShortOf workAreas
+        short-query v =
+            rw (
+              le-ltb (length (w .schema)) 9992 a,
+              le-ltb (length (w .nodes)) 15880 g,
+              le-ltb (length (w .properties)) 14344 p,
+              le-ltb (length (w .values)) 8200 v,
+              or-false (ltb (length (w .query)) 3592),
+            )
+
+-- ---- the texts
+
+module _ (s g q : List ℕ) (w : Lent) (long : tooShortOf w ≡ false) where
+  abbrev x : Texts
+  x = texts s g q
+
+  abbrev t : Schema
+  t = schemaOf (rows s)
+
+  past-2 : judged (textChecks (tooShortOf w) x) ≡ judged (schemaChecks s ++ (graphChecks t g ++ queryChecks t q))
+  unfolding textChecks texts
+  past-2 = judged-past 2 (whole (tooShortOf w)) _ (rw long)
+
+  module _ (n : ℕ) (a : List ℕ) (b : Verdict) (j : SchemaJudged s n a b) where
+    pub schema-refused : (after : Lent) → (b .number ≡ 0 → ⊥) → Judged x w after b
+    schema-refused after h =
+        record {
+          is = j .is ∙ sym (past-2 ∙ front (schemaChecks s) _ (λ z. h (ap (λ (v : Verdict). v .number) (j .is) ∙ z)));
+          held = λ z. absurd (h z);
+        }
+
+    module _ (room : 9992 ≤ n) (z : b .number ≡ 0) where
+      passes : Each Passes (schemaChecks s)
+      passes = passed (schemaChecks s) (schema-numbers s) (ap (λ (v : Verdict). v .number) (sym (j .is)) ∙ z)
+
+      fits : SchemaFits (rows s)
+      fits = schema-fits (rows s) (passes .1 .0)
+
+      pub held-schema : SchemaHeld a
+      held-schema = subst SchemaHeld (sym (j .held z)) (schema-held n (rows s) room fits)
+
+      same-schema : schemaAt a ≡ t
+      same-schema = ap schemaAt (j .held z) ∙ schema-view n (rows s) room fits
+
+      past-schema : judged (textChecks (tooShortOf w) x) ≡ judged (graphChecks (schemaAt a) g ++ queryChecks (schemaAt a) q)
+      past-schema =
+          past-2 ∙ behind (schemaChecks s) _ passes
+          ∙ ap (λ (u : Schema). judged (graphChecks u g ++ queryChecks u q)) (sym same-schema)
+
+      module _ (k l m : ℕ) (ns ps vs : List ℕ) (c : Verdict) (i : GraphJudged (schemaAt a) g k l m ns ps vs c) where
+        pub graph-refused : (after : Lent) → (c .number ≡ 0 → ⊥) → Judged x w after c
+        graph-refused after h =
+            record {
+              is = i .is ∙ sym (past-schema ∙ front (graphChecks (schemaAt a) g) _ (λ y. h (ap (λ (v : Verdict). v .number) (i .is) ∙ y)));
+              held = λ y. absurd (h y);
+            }
+
+        module _ (y : c .number ≡ 0) where
+          passes-graph : Each Passes (graphChecks (schemaAt a) g)
+          passes-graph =
+              passed (graphChecks (schemaAt a) g) (graph-numbers (schemaAt a) g) (ap (λ (v : Verdict). v .number) (sym (i .is)) ∙ y)
+
+          past-graph : judged (textChecks (tooShortOf w) x) ≡ judged (queryChecks (schemaAt a) q)
+          past-graph = past-schema ∙ behind (graphChecks (schemaAt a) g) _ passes-graph
+
+          pub all-accepted : (h o : ℕ) (qs : List ℕ) (r : Verdict) → QueryJudged (schemaAt a) q h qs r → n ≡ length (w .schema)
+              → k ≡ length (w .nodes) → l ≡ length (w .properties) → m ≡ 8200 → h ≡ length (w .query) → Judged x w (lent a ns ps vs qs) r
+          unfolding lent texts
+          all-accepted h o qs r u en ek el em eh =
+              record {
+                is = u .is ∙ sym past-graph;
+                held = λ f. record {
+                  schema = j .held z ∙ ap (λ (d : ℕ). schemaArea d (rows s)) en;
+                  nodes = i .held y .0 ∙ ap (λ (d : ℕ). nodeArea d (rows g)) ek;
+                  properties = i .held y .1 ∙ ap (λ (d : ℕ). propertyArea d (rows g)) el;
+                  values =
+                      take-all 8200 vs (omega (arith, i .long .2, em)) ∙ i .held y .2 ∙ ap (λ (d : ℕ). valueArea d (rows g)) em;
+                  query = u .held f ∙ ap (λ (d : ℕ). queryArea d (rows q)) eh;
+                };
+              }
+
+-- ---- the call that has no condition
+
+module _ (s g q : List ℕ) (w : Lent) where
+  pub too-short : (after : Lent) (v : Verdict) → tooShortOf w ≡ true → v ≡ refusedBy 2 (spot 0 0) → Judged (texts s g q) w after v
+  unfolding textChecks refusedBy
+  too-short after v h e =
+      record {
+        is = e ∙ sym (judged-at 2 (whole (tooShortOf w)) _ (spot 0 0) (rw h));
+        held = λ z. absurd (omega (arith, ap (λ (u : Verdict). u .number) e));
+      }
+
+both : (a b : Bool) → (a || b) ≡ false → (a ≡ false) × (b ≡ false)
+both true b h = absurd (true≢false h)
+both false b h = (refl, h)
+
+-- areas none of which is too short
+pub record Long (w : Lent) : Type 0 where
+  pub schema : 9992 ≤ length (w .schema)
+  pub nodes : 15880 ≤ length (w .nodes)
+  pub properties : 14344 ≤ length (w .properties)
+  pub values : 8200 ≤ length (w .values)
+  pub query : 3592 ≤ length (w .query)
+
+pub long-areas : (w : Lent) → tooShortOf w ≡ false → Long w
+unfolding tooShortOf workAreas
+long-areas w h =
+    let a = both _ _ h in
+    let g = both _ _ (a .1) in
+    let p = both _ _ (g .1) in
+    let v = both _ _ (p .1) in
+    let q = both _ _ (v .1) in
+    record {
+      schema = ltb-false _ _ (a .0);
+      nodes = ltb-false _ _ (g .0);
+      properties = ltb-false _ _ (p .0);
+      values = ltb-false _ _ (v .0);
+      query = ltb-false _ _ (q .0);
+    }
+
+-- of the values' area the needed part is lent, and stands at the front afterwards
+pub widened : (s g q a ns ps vs qs b ms os u us rest : List ℕ) (r : Verdict) → tooShortOf (lent a ns ps vs qs) ≡ false → length u ≡ 8200
+    → Judged (texts s g q) (lent a ns ps (take 8200 vs) qs) (lent b ms os u us) r
+    → Judged (texts s g q) (lent a ns ps vs qs) (lent b ms os (u ++ rest) us) r
+unfolding lent texts
+widened s g q a ns ps vs qs b ms os u us rest r h l j =
+    let w = lent a ns ps vs qs in
+    let long : Long w = long-areas w h in
+    let part : length (take 8200 vs) ≡ 8200 = length-take-le 8200 vs (long .values) in
+    let narrow : tooShortOf (lent a ns ps (take 8200 vs) qs) ≡ false =
+    enough (lent a ns ps (take 8200 vs) qs) (long .schema) (long .nodes) (long .properties) (omega arith) (long .query) in
+    record {
+      is = j .is ∙ ap (λ (d : Bool). judged (textChecks d (texts s g q))) (narrow ∙ sym h);
+      held = λ z.
+          let k = j .held z in
+          record {
+            schema = k .schema;
+            nodes = k .nodes;
+            properties = k .properties;
+            values = take-append-le 8200 u rest (omega arith) ∙ k .values;
+            query = k .query;
+          };
+    }

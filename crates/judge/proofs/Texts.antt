@@ -14,7 +14,7 @@ use Rattle.rules.specs.Search.{spot, whole}
 use Rattle.rules.specs.Schema.{Schema, schemaOf}
 use Rattle.rules.specs.Answer.{Texts, Numbered, _by_, verdict, schemaIn, schemaChecks, graphChecks, queryChecks}
 use Rattle.rules.specs.declared.Spot.{Spot}
-use Rattle.rules.proofs.Clean.{Each}
+use Rattle.rules.proofs.Clean.{Each, each-append}
 use Rattle.tables.specs.Layout.{schemaArea, nodeArea, propertyArea, valueArea, queryArea}
 use Rattle.tables.specs.Read.{schemaAt}
 use Rattle.tables.specs.Fill.{SchemaFits}
@@ -31,7 +31,7 @@ use Rattle.judge.specs.Texts.{texts, Lent, lent, workAreas, tooShortOf, 
 
 -- ---- the first check of two lists of checks
 
-abbrev Passes : Numbered → Type 0
+abbrev pub Passes : Numbered → Type 0
 Passes c = c .place ≡ none
 
 abbrev Positive : Numbered → Type 0
@@ -261,3 +261,19 @@ widened s g q a ns ps vs qs b ms os u us rest r h l j =
             query = k .query;
           };
     }
+
+query-numbers : (t : Schema) (s : List ℕ) → Each Positive (queryChecks t s)
+query-numbers t s = (omega arith, (omega arith, (omega arith, (omega arith, (omega arith, tt)))))
+
+-- an accepted verdict passes every check
+pub accepted-passes : (x : Texts) (before after : Lent) (v : Verdict) → Judged x before after v → v .number ≡ 0
+    → Each Passes (textChecks (tooShortOf before) x)
+unfolding textChecks
+accepted-passes x before after v j z =
+    passed (textChecks (tooShortOf before) x) (
+      omega arith,
+      each-append Positive (schemaChecks (x .schema)) (graphChecks (schemaIn x) (x .graph) ++ queryChecks (schemaIn x) (x .query)) (schema-numbers (x .schema))
+          (each-append Positive (graphChecks (schemaIn x) (x .graph)) (queryChecks (schemaIn x) (x .query)) (graph-numbers (schemaIn x) (x .graph))
+          (query-numbers (schemaIn x) (x .query))),
+    )
+    (ap (λ (u : Verdict). u .number) (sym (j .is)) ∙ z)

@@ -1,0 +1,3 @@
+pub mod Targets
+pub mod Asked
+pub mod Reading

@@ -1,0 +1,43 @@
+-- `world::matches` meets its contract. The node decides whether the label is looked at. Assumes nothing.
+use native.Mathlib.Omega.{arith}
+use borrow.Author.Needs.{needs}
+use Rattle.graph.proofs.Copying.{other-node}
+use Rattle.world.proofs.Reading.{row-asked}
+use Rattle.world.proofs.matches.Statement.{statement}
+use Rattle.world.proofs.matches.Tie as tie
+
+wide-at-requires : tie.Need-wide-at-requires
+wide-at-requires c κs = search needs
+
+label-at-requires : tie.Need-label-at-requires
+label-at-requires c κs =
+    let s = c .before .before .before .before in
+    let h = s .pre .0 in
+    (omega (arith, h .long), (h .low, (omega (arith, h .few), (h .pairs) (s .args .j) (s .pre .1 .1 .1))))
+
+asked-label-requires : tie.Need-asked-label-requires
+asked-label-requires c κs = search needs
+
+same-label-requires : tie.Need-same-label-requires
+same-label-requires c κs = search needs
+
+returns : tie.Need-returns
+returns c =
+    let x = c .before .before in
+    let w = x .before .before in
+    row-asked _ _ _ _ _ _ _ _ _ (w .wide-at .ensures) (x .before .if1 .taken) (x .label-at .ensures .0) (c .before .asked-label .ensures .0)
+    (c .same-label .ensures)
+
+returns-2 : tie.Need-returns-2
+returns-2 c = search (other-node, needs)
+
+pub matches-spec : {M : Type 1} → statement M
+matches-spec =
+    tie.close
+    (tie.spec
+    wide-at-requires
+    label-at-requires
+    asked-label-requires
+    same-label-requires
+    returns
+    returns-2)

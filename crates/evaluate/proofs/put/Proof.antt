@@ -1,0 +1,23 @@
+-- `evaluate::put` meets its contract: one store. Assumes nothing.
+use borrow.Author.Needs.{needs}
+use Rattle.evaluate.proofs.Write.{wrote-one}
+use Rattle.evaluate.proofs.put.Statement.{statement}
+use Rattle.evaluate.proofs.put.Tie as tie
+
+mul-out : tie.Need-mul-out
+mul-out c = search needs
+
+slice-write-out : tie.Need-slice-write-out
+slice-write-out c = search needs
+
+add-result : tie.Need-add-result
+add-result c = search needs
+
+same-length : tie.Need-same-length
+same-length c = search needs
+
+returns : tie.Need-returns
+returns c = wrote-one _ _ _ (search needs)
+
+pub put-spec : {M : Type 1} → statement M
+put-spec = tie.close (tie.spec mul-out slice-write-out add-result same-length returns)

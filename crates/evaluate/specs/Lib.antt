@@ -1,0 +1,2 @@
+pub mod Evaluate
+pub mod Write

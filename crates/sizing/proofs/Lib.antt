@@ -1,0 +1,4 @@
+pub mod Rows
+pub mod Passing
+pub mod Tallying
+pub mod Passes

@@ -1,0 +1,251 @@
+-- The written rules: when three texts meet them, and the place that they fix for each refusal. Assumes nothing.
+use Prim.Native.Nat.{ℕ, _≤_, _<_}
+use mathlib.Core.Path.{_≡_, refl, sym, ap, subst}
+use mathlib.Core.Logic.{_⊎_, inl, inr, _↔_}
+use mathlib.Core.Bool.{Bool, true, false, not}
+use mathlib.Core.List.{List, [], _∷_}
+use mathlib.Core.Option.{some, Option·some-injective}
+use lib.Dec.{eqb, ltb}
+use lib.ListN.{length}
+use borrow.Author.Tests.{eqb-true, ltb-true, ltb-false, le-ltb}
+use Rattle.rules.specs.Lists.{those}
+use Rattle.rules.specs.Text.{Row, lines, Q}
+use Rattle.rules.specs.Search.{spot, whole}
+use Rattle.rules.specs.Forms.{Form, schemaForms, graphForms, queryForms, breaks, longest, textForm}
+use Rattle.rules.specs.Schema.{is, queryType, check11, check12, check13, check14, check15}
+use Rattle.rules.specs.Graph.{nodesOf, check21, check22, check23, check24, check25, check26}
+use Rattle.rules.specs.Query.{check31, steps, check32, check33, check34}
+use Rattle.rules.specs.Eval.{meetsFork}
+use Rattle.rules.specs.Answer.{Texts, worldOf, schemaRows, graphRows, queryRows, schemaIn, graphIn, treeOf, rootOf, Numbered, schemaChecks, graphChecks, queryChecks, checks, answerChecks, largestRoom}
+use Rattle.rules.specs.Contract.{FirstLine, placeOf, Passed}
+use Rattle.rules.specs.declared.Spot.{Spot}
+use Rattle.rules.proofs.Bools.{some-none}
+use Rattle.rules.proofs.Clean.{Each, whole-none}
+use Rattle.rules.proofs.Places.{Passes, passes-at, passed-tail, place-is-first}
+use Rattle.rules.proofs.Outcomes.{answer-checks-rise}
+use Rattle.rules.proofs.Single.{no-fork-met}
+
+-- ---- the rules met
+
+-- "Schema, graph and query .. meet the written rules": no check of any of the three texts is offended.
+pub record RulesMet (x : Texts) : Type 0 where
+  pub schema : Passed (schemaChecks (x .schema))
+  pub graph : Passed (graphChecks (schemaIn x) (x .graph))
+  pub query : Passed (queryChecks (schemaIn x) (x .query))
+
+module _ (short : Bool) (x : Texts) where
+  from-passed : Passed (checks short x) → (short ≡ false) × RulesMet x
+  from-passed p = (
+    whole-none short (p 2),
+    record {
+      schema = passes-at (schemaChecks (x .schema)) (p 10, (p 11, (p 12, (p 13, (p 14, (p 15, (p 16, tt)))))));
+      graph =
+          passes-at (graphChecks (schemaIn x) (x .graph))
+          (p 20, (p 21, (p 22, (p 23, (p 24, (p 25, (p 26, (p 27, tt))))))));
+      query = passes-at (queryChecks (schemaIn x) (x .query)) (p 30, (p 31, (p 32, (p 33, (p 34, tt)))));
+    },
+  )
+
+  -- the evaluation's check is passed where those of the graph are
+  all-pass : short ≡ false → RulesMet x → Passes (checks short x)
+  all-pass h r =
+      let s : Passed (schemaChecks (x .schema)) = r .schema in
+      let g : Passed (graphChecks (schemaIn x) (x .graph)) = r .graph in
+      let q : Passed (queryChecks (schemaIn x) (x .query)) = r .query in
+      let met = no-fork-met (schemaIn x) (graphRows x) (g 25) (g 26) (treeOf x) (rootOf x) in (
+        ap whole h,
+        (
+          s 10,
+          (
+            s 11,
+            (
+              s 12,
+              (
+                s 13,
+                (
+                  s 14,
+                  (
+                    s 15,
+                    (
+                      s 16,
+                      (
+                        g 20,
+                        (
+                          g 21,
+                          (
+                            g 22,
+                            (
+                              g 23,
+                              (
+                                g 24,
+                                (
+                                  g 25,
+                                  (
+                                    g 26,
+                                    (
+                                      g 27,
+                                      (q 30, (q 31, (q 32, (q 33, (q 34, (ap whole met, tt)))))),
+                                    ),
+                                  ),
+                                ),
+                              ),
+                            ),
+                          ),
+                        ),
+                      ),
+                    ),
+                  ),
+                ),
+              ),
+            ),
+          ),
+        ),
+      )
+
+  -- no check is offended exactly when no area is too short and the rules are met;
+  pub passed-exactly : Passed (checks short x) ↔ ((short ≡ false) × RulesMet x)
+  passed-exactly = (from-passed, λ r. passes-at (checks short x) (all-pass (r .0) (r .1)))
+
+  -- in answering, the room is not above 16,384 besides
+  pub answer-passed-exactly : (room : ℕ) → Passed (answerChecks short x room) ↔ ((room ≤ 16384) × (short ≡ false) × RulesMet x)
+  answer-passed-exactly room = (
+    λ p. let r = from-passed (behind p) in (ltb-false largestRoom room (whole-none (ltb largestRoom room) (p 1)), r .0, r .1),
+    λ r. passes-at (answerChecks short x room) (ap whole (le-ltb largestRoom room (r .0)), all-pass (r .1) (r .2)),
+  )
+    where
+      behind : Passed (answerChecks short x room) → Passed (checks short x)
+      behind p = passed-tail 0 _ (checks short x) (answer-checks-rise short x room []) p
+
+-- ---- the place fixed
+
+-- of a check of the text form: "The length of a text is tested before its lines."
+abbrev pub FormPlace : List Form → List ℕ → Spot → Type 0
+FormPlace fs text p = ((65535 < length text) × (p ≡ spot 0 0)) ⊎ ((length text ≤ 65535) × FirstLine (breaks fs) (lines text) p)
+
+-- of 32: "no entries (place 0)"
+abbrev pub StepPlace : List Row → Spot → Type 0
+StepPlace rs p = ((rs ≡ []) × (p ≡ spot 0 0)) ⊎ FirstLine steps rs p
+
+-- "the place is the first line that offends against that check. Lines are counted from 1"; place 0 is a whole text or call.
+-- (40 never arises: `never-40` of Rattle.rules.proofs.Outcomes.)
+pub data PlaceFixed (x : Texts) : ℕ → Spot → Type 0 where
+  at-1 : {p : Spot} → p ≡ spot 0 0 → PlaceFixed x 1 p
+  at-2 : {p : Spot} → p ≡ spot 0 0 → PlaceFixed x 2 p
+  at-10 : {p : Spot} → FormPlace schemaForms (x .schema) p → PlaceFixed x 10 p
+  at-11 : {p : Spot} → FirstLine check11 (schemaRows x) p → PlaceFixed x 11 p
+  at-12 : {p : Spot} → FirstLine (check12 (schemaIn x)) (schemaRows x) p → PlaceFixed x 12 p
+  at-13 : {p : Spot} → FirstLine check13 (schemaRows x) p → PlaceFixed x 13 p
+  at-14 : {p : Spot} → FirstLine (check14 (schemaIn x)) (schemaRows x) p → PlaceFixed x 14 p
+  at-15 : {p : Spot} → FirstLine (check15 (schemaIn x)) (schemaRows x) p → PlaceFixed x 15 p
+  at-16 : {p : Spot} → p ≡ spot 0 0 → PlaceFixed x 16 p
+  at-20 : {p : Spot} → FormPlace graphForms (x .graph) p → PlaceFixed x 20 p
+  at-21 : {p : Spot} → FirstLine check21 (graphRows x) p → PlaceFixed x 21 p
+  at-22 : {p : Spot} → FirstLine (check22 (schemaIn x) (graphIn x)) (graphRows x) p → PlaceFixed x 22 p
+  at-23 : {p : Spot} → FirstLine (check23 (schemaIn x) (graphIn x)) (graphRows x) p → PlaceFixed x 23 p
+  at-24 : {p : Spot} → FirstLine (check24 (schemaIn x) (graphIn x)) (graphRows x) p → PlaceFixed x 24 p
+  at-25 : {p : Spot} → FirstLine (check25 (schemaIn x) (graphIn x)) (graphRows x) p → PlaceFixed x 25 p
+  at-26 : {p : Spot} → FirstLine check26 (graphRows x) p → PlaceFixed x 26 p
+  at-27 : {p : Spot} → p ≡ spot 0 0 → PlaceFixed x 27 p
+  at-30 : {p : Spot} → FormPlace queryForms (x .query) p → PlaceFixed x 30 p
+  at-31 : {p : Spot} → FirstLine check31 (queryRows x) p → PlaceFixed x 31 p
+  at-32 : {p : Spot} → StepPlace (queryRows x) p → PlaceFixed x 32 p
+  at-33 : {p : Spot} → FirstLine (check33 (schemaIn x)) (queryRows x) p → PlaceFixed x 33 p
+  at-34 : {p : Spot} → FirstLine (check34 (schemaIn x)) (queryRows x) p → PlaceFixed x 34 p
+  at-40 : {p : Spot} → p ≡ spot 0 0 → PlaceFixed x 40 p
+
+whole-place : (b : Bool) (p : Spot) → whole b ≡ some p → p ≡ spot 0 0
+whole-place true p h = sym (Option·some-injective (spot 0 0) p h)
+whole-place false p h = absurd (some-none (sym h))
+
+form-place : (fs : List Form) (text : List ℕ) (p : Spot) → textForm fs text ≡ some p → FormPlace fs text p
+form-place fs text p h = go (ltb longest (length text)) refl
+  where
+    go : (b : Bool) → ltb longest (length text) ≡ b → FormPlace fs text p
+    go true e = inl (ltb-true longest (length text) e, sym (Option·some-injective (spot 0 0) p (rw e at h)))
+    go false e = inr (ltb-false longest (length text) e, place-is-first (breaks fs) (lines text) p .0 (rw e at h))
+
+step-place : (rs : List Row) (p : Spot) → check32 rs ≡ some p → StepPlace rs p
+step-place [] p h = inl (refl, sym (Option·some-injective (spot 0 0) p h))
+step-place (r ∷ rs) p h = inr (place-is-first steps (r ∷ rs) p .0 h)
+
+-- the checks of a list, each with its place fixed
+abbrev pub Fixes : Texts → Numbered → Type 0
+Fixes x c = (p : Spot) → c .place ≡ some p → PlaceFixed x (c .number) p
+
+pub place-fixed : (x : Texts) (cs : List Numbered) → Each (Fixes x) cs → (n : ℕ) (p : Spot) → placeOf n cs ≡ some p → PlaceFixed x n p
+place-fixed x [] f n p h = absurd (some-none (sym h))
+place-fixed x (c ∷ cs) f n p h = go (λ k. place-fixed x cs (f .1) n p k) (eqb (c .number) n) refl
+  where
+    go : (placeOf n cs ≡ some p → PlaceFixed x n p) → (b : Bool) → eqb (c .number) n ≡ b → PlaceFixed x n p
+    go ih true e = subst (λ (k : ℕ). PlaceFixed x k p) (eqb-true (c .number) n e) ((f .0) p (rw (e, placeOf) at h))
+    go ih false e = ih (rw (e, placeOf) at h)
+
+module _ (short : Bool) (x : Texts) where
+  pub checks-fixed : Each (Fixes x) (checks short x)
+  checks-fixed = (
+    λ p h. at-2 (whole-place short p h),
+    (
+      λ p h. at-10 (form-place schemaForms (x .schema) p h),
+      (
+        λ p h. at-11 (place-is-first check11 (schemaRows x) p .0 h),
+        (
+          λ p h. at-12 (place-is-first (check12 (schemaIn x)) (schemaRows x) p .0 h),
+          (
+            λ p h. at-13 (place-is-first check13 (schemaRows x) p .0 h),
+            (
+              λ p h. at-14 (place-is-first (check14 (schemaIn x)) (schemaRows x) p .0 h),
+              (
+                λ p h. at-15 (place-is-first (check15 (schemaIn x)) (schemaRows x) p .0 h),
+                (
+                  λ p h. at-16 (whole-place (not (eqb (length (those (is Q) (schemaRows x))) 1)) p h),
+                  (
+                    λ p h. at-20 (form-place graphForms (x .graph) p h),
+                    (
+                      λ p h. at-21 (place-is-first check21 (graphRows x) p .0 h),
+                      (
+                        λ p h. at-22 (place-is-first (check22 (schemaIn x) (graphIn x)) (graphRows x) p .0 h),
+                        (
+                          λ p h. at-23 (place-is-first (check23 (schemaIn x) (graphIn x)) (graphRows x) p .0 h),
+                          (
+                            λ p h. at-24 (place-is-first (check24 (schemaIn x) (graphIn x)) (graphRows x) p .0 h),
+                            (
+                              λ p h. at-25 (place-is-first (check25 (schemaIn x) (graphIn x)) (graphRows x) p .0 h),
+                              (
+                                λ p h. at-26 (place-is-first check26 (graphRows x) p .0 h),
+                                (
+                                  λ p h. at-27 (whole-place (not (eqb (length (nodesOf (graphIn x) (queryType (schemaIn x)))) 1)) p h),
+                                  (
+                                    λ p h. at-30 (form-place queryForms (x .query) p h),
+                                    (
+                                      λ p h. at-31 (place-is-first check31 (queryRows x) p .0 h),
+                                      (
+                                        λ p h. at-32 (step-place (queryRows x) p h),
+                                        (
+                                          λ p h. at-33 (place-is-first (check33 (schemaIn x)) (queryRows x) p .0 h),
+                                          (
+                                            λ p h. at-34 (place-is-first (check34 (schemaIn x)) (queryRows x) p .0 h),
+                                            (λ p h. at-40 (whole-place (meetsFork (worldOf x) (treeOf x) (rootOf x)) p h), tt),
+                                          ),
+                                        ),
+                                      ),
+                                    ),
+                                  ),
+                                ),
+                              ),
+                            ),
+                          ),
+                        ),
+                      ),
+                    ),
+                  ),
+                ),
+              ),
+            ),
+          ),
+        ),
+      ),
+    ),
+  )
+
+  pub answer-checks-fixed : (room : ℕ) → Each (Fixes x) (answerChecks short x room)
+  answer-checks-fixed room = (λ p h. at-1 (whole-place (ltb largestRoom room) p h), checks-fixed)

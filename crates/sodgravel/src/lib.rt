@@ -1,0 +1,182 @@
+// The public calls: one sizes a query, one answers it. Each makes all checks, and neither asks anything of its caller.
+ghost use mathlib.Core.Path.{_≡_};
+ghost use Prim.Native.Nat.{_≤_};
+ghost use lib.ListN.{length};
+ghost use lib.Dec.{leb};
+ghost use Rattle.rules.specs.Answer.{space};
+ghost use Rattle.judge.specs.Texts.{texts, lent};
+ghost use Rattle.sodgravel.specs.Calls.{sizedIn, answeredIn, bufferIn, cleared, refusedBy, Measured, Responded};
+use rules::Outcome;
+
+// A refusal at place 0.
+fn refuse(number: u32) -> Outcome
+    ensures { λ r. ⌜ r ≡ refusedBy number ⌝ }
+{
+    Outcome {
+        number,
+        place: 0,
+        size: 0,
+        visits: 0,
+    }
+}
+
+// Whether a size fits the room, the smaller of the number given and the response buffer's length.
+fn fits(size: u32, room: u32, out: &[u32]) -> bool
+    ensures { λ r. ⌜ r ≡ leb size (space room (now (out .entry))) ⌝ }
+{
+    if room < size {
+        return false;
+    }
+    size as usize <= out.len()
+}
+
+// Zeroes every work area.
+fn clear_all(
+    a: &mut [u32],
+    g: &mut [u32],
+    p: &mut [u32],
+    v: &mut [u32],
+    q: &mut [u32],
+    m: &mut [u64],
+)
+    ensures { λ _. ⌜ now (a .exit) ≡ cleared (now (a .entry)) ⌝ }
+    ensures { λ _. ⌜ now (g .exit) ≡ cleared (now (g .entry)) ⌝ }
+    ensures { λ _. ⌜ now (p .exit) ≡ cleared (now (p .entry)) ⌝ }
+    ensures { λ _. ⌜ now (v .exit) ≡ cleared (now (v .entry)) ⌝ }
+    ensures { λ _. ⌜ now (q .exit) ≡ cleared (now (q .entry)) ⌝ }
+    ensures { λ _. ⌜ now (m .exit) ≡ cleared (now (m .entry)) ⌝ }
+{
+    tables::clear(a);
+    tables::clear(g);
+    tables::clear(p);
+    tables::clear(v);
+    tables::clear(q);
+    sizing::clear_rows(m);
+}
+
+// The outcome of sizing. The areas are left as they are: where it is accepted, they hold the tables.
+fn measure(
+    schema: &[u8],
+    graph: &[u8],
+    query: &[u8],
+    a: &mut [u32],
+    g: &mut [u32],
+    p: &mut [u32],
+    v: &mut [u32],
+    q: &mut [u32],
+    m: &mut [u64],
+) -> Outcome
+    ensures { λ r. ⌜ Measured (texts (now (schema .entry)) (now (graph .entry)) (now (query .entry))) (lent (now (a .entry)) (now (g .entry)) (now (p .entry)) (now (v .entry)) (now (q .entry))) (lent (now (a .exit)) (now (g .exit)) (now (p .exit)) (now (v .exit)) (now (q .exit))) (now (m .entry)) r ⌝ }
+{
+    if m.len() < 8192 {
+        return refuse(2);
+    }
+    let b = judge::judge(schema, graph, query, a, g, p, v, q);
+    if b.number != 0 {
+        return Outcome {
+            number: b.number,
+            place: b.spot.line,
+            size: 0,
+            visits: 0,
+        };
+    }
+    let t = sizing::size_query(a, g, p, &v[..8200], q, m);
+    Outcome {
+        number: 0,
+        place: 0,
+        size: t.size,
+        visits: t.visits,
+    }
+}
+
+// The outcome of answering in a room that is not above 16,384, and the response: sizes first, and writes no token of a response
+// that does not fit.
+fn respond(
+    schema: &[u8],
+    graph: &[u8],
+    query: &[u8],
+    a: &mut [u32],
+    g: &mut [u32],
+    p: &mut [u32],
+    v: &mut [u32],
+    q: &mut [u32],
+    m: &mut [u64],
+    room: u32,
+    out: &mut [u32],
+) -> Outcome
+    requires { ⌜ room ≤ 16384 ⌝ }
+    ensures { λ r. ⌜ Responded (texts (now (schema .entry)) (now (graph .entry)) (now (query .entry))) (lent (now (a .entry)) (now (g .entry)) (now (p .entry)) (now (v .entry)) (now (q .entry))) (now (m .entry)) room (now (out .entry)) (now (out .exit)) r ⌝ }
+{
+    let o = measure(schema, graph, query, a, g, p, v, q, m);
+    if o.number != 0 {
+        return o;
+    }
+    if !fits(o.size, room, out) {
+        return Outcome {
+            number: 50,
+            place: 0,
+            size: o.size,
+            visits: o.visits,
+        };
+    }
+    let root = world::query_node(a, g);
+    evaluate::selection(a, g, p, &v[..8200], q, 0, 0, root, out, 0);
+    o
+}
+
+// Sizes a query: the length of its response, without a response buffer, and the visits.
+pub fn size(
+    schema: &[u8],
+    graph: &[u8],
+    query: &[u8],
+    a: &mut [u32],
+    g: &mut [u32],
+    p: &mut [u32],
+    v: &mut [u32],
+    q: &mut [u32],
+    m: &mut [u64],
+) -> Outcome
+    ensures { λ r. ⌜ r ≡ sizedIn (lent (now (a .entry)) (now (g .entry)) (now (p .entry)) (now (v .entry)) (now (q .entry))) (now (m .entry)) (texts (now (schema .entry)) (now (graph .entry)) (now (query .entry))) ⌝ }
+    ensures { λ _. ⌜ now (a .exit) ≡ cleared (now (a .entry)) ⌝ }
+    ensures { λ _. ⌜ now (g .exit) ≡ cleared (now (g .entry)) ⌝ }
+    ensures { λ _. ⌜ now (p .exit) ≡ cleared (now (p .entry)) ⌝ }
+    ensures { λ _. ⌜ now (v .exit) ≡ cleared (now (v .entry)) ⌝ }
+    ensures { λ _. ⌜ now (q .exit) ≡ cleared (now (q .entry)) ⌝ }
+    ensures { λ _. ⌜ now (m .exit) ≡ cleared (now (m .entry)) ⌝ }
+{
+    let o = measure(schema, graph, query, a, g, p, v, q, m);
+    clear_all(a, g, p, v, q, m);
+    o
+}
+
+// Answers a query in a room: writes its response at the head of the buffer, or refuses and leaves the buffer as it was.
+pub fn answer(
+    schema: &[u8],
+    graph: &[u8],
+    query: &[u8],
+    a: &mut [u32],
+    g: &mut [u32],
+    p: &mut [u32],
+    v: &mut [u32],
+    q: &mut [u32],
+    m: &mut [u64],
+    room: u32,
+    out: &mut [u32],
+) -> Outcome
+    ensures { λ r. ⌜ r ≡ answeredIn (lent (now (a .entry)) (now (g .entry)) (now (p .entry)) (now (v .entry)) (now (q .entry))) (now (m .entry)) (texts (now (schema .entry)) (now (graph .entry)) (now (query .entry))) room (now (out .entry)) ⌝ }
+    ensures { λ _. ⌜ now (out .exit) ≡ bufferIn (lent (now (a .entry)) (now (g .entry)) (now (p .entry)) (now (v .entry)) (now (q .entry))) (now (m .entry)) (texts (now (schema .entry)) (now (graph .entry)) (now (query .entry))) room (now (out .entry)) ⌝ }
+    ensures { λ _. ⌜ now (a .exit) ≡ cleared (now (a .entry)) ⌝ }
+    ensures { λ _. ⌜ now (g .exit) ≡ cleared (now (g .entry)) ⌝ }
+    ensures { λ _. ⌜ now (p .exit) ≡ cleared (now (p .entry)) ⌝ }
+    ensures { λ _. ⌜ now (v .exit) ≡ cleared (now (v .entry)) ⌝ }
+    ensures { λ _. ⌜ now (q .exit) ≡ cleared (now (q .entry)) ⌝ }
+    ensures { λ _. ⌜ now (m .exit) ≡ cleared (now (m .entry)) ⌝ }
+{
+    if 16384 < room {
+        clear_all(a, g, p, v, q, m);
+        return refuse(1);
+    }
+    let o = respond(schema, graph, query, a, g, p, v, q, m, room, out);
+    clear_all(a, g, p, v, q, m);
+    o
+}

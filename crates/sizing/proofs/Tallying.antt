@@ -8,7 +8,7 @@ use mathlib.Core.Path.{_≡_, refl, sym, ap, ap₂, _∙_}
 use mathlib.Core.Bool.{Bool, true, false, cond}
 use mathlib.Core.List.{List, [], _∷_, _++_}
 use lib.ListN.{length, getD, drop, length-take, length-drop, drop-of-length-le}
-use lib.Seq.{drop-cons, getD-take, getD-drop}
+use lib.Seq.{drop-cons}
 use lib.Dec.{eqb}
 use Rattle.rules.specs.Text.{fieldNo}
 use Rattle.rules.specs.Graph.{Label, Found, one, many}
@@ -27,6 +27,7 @@ use Rattle.world.specs.declared.FieldKind.{FieldKind}
 use Rattle.world.specs.declared.FieldKind.the-variants.{Scalar, Objects, Object}
 use Rattle.world.proofs.Asked.{asks-field, asks-on, asked-field}
 use Rattle.world.proofs.Targets.{targets-all, targets-done, targets-more, targets-few, edge-on, world-lookup, world-shape, world-targets}
+use Rattle.sizing.proofs.Rows.{row-get, row-length}
 
 -- ---- one visit more
 
@@ -167,14 +168,6 @@ tallied-visit : (w : World) (t : Tally) (e : Entry) (u x : ℕ) (vs : List Visit
 unfolding tallied
 tallied-visit w t e u zero vs h = absurd (omega arith)
 tallied-visit w t e u (suc x) vs h = refl
-
-pub row-get : (m : List ℕ) (c n u : ℕ) → u < n → getD (rowIn m c n) u 0 ≡ getD m (c + u) 0
-unfolding rowIn
-row-get m c n u h = rw (getD-take, getD-drop)
-
-pub row-length : (m : List ℕ) (c n : ℕ) → c + n ≤ length m → length (rowIn m c n) ≡ n
-unfolding rowIn
-row-length m c n h = simp (length-take, length-drop) (omega arith)
 
 -- the tally once the visits from node u on are added
 abbrev pub talliedFrom : World → List ℕ → ℕ → List ℕ → Tally → ℕ → Tally

@@ -1,5 +1,5 @@
 pub mod Passing
 pub mod Ready
 pub mod Telling
-pub mod Ruled
+pub mod Rules
 pub mod Demands

@@ -1,13 +1,12 @@
 -- What the public calls return, and what they leave in all that they were lent. Assumes nothing.
-use Prim.Native.Nat.{ℕ, _≤_}
+use Prim.Native.Nat.{ℕ}
 use mathlib.Core.Path.{_≡_}
 use mathlib.Core.Bool.{Bool}
 use mathlib.Core.List.{List, [], _∷_, _++_}
-use lib.ListN.{length}
 use Rattle.rules.specs.Search.{spot}
 use Rattle.rules.specs.Answer.{Texts, Area, tooShort, sized, answered, bufferAfter, zeroed, refused, fitted, space, written, response}
 use Rattle.rules.specs.declared.Outcome.{Outcome}
-use Rattle.judge.specs.Texts.{Lent, lent, workAreas, Holding}
+use Rattle.judge.specs.Texts.{Lent, workAreas, Holding}
 
 -- The work areas of a call: those that the texts are read into, and the rows of multiplicities, sixteen depths of 512 nodes.
 unfoldable pub areasOf : Lent → List ℕ → List Area

@@ -1,7 +1,6 @@
 // The public calls: one sizes a query, one answers it. Each makes all checks, and neither asks anything of its caller.
 ghost use mathlib.Core.Path.{_≡_};
 ghost use Prim.Native.Nat.{_≤_};
-ghost use lib.ListN.{length};
 ghost use lib.Dec.{leb};
 ghost use Rattle.rules.specs.Answer.{space};
 ghost use Rattle.judge.specs.Texts.{texts, lent};

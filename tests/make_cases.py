@@ -3,13 +3,15 @@
     python3 tests/make_cases.py             writes both files
     python3 tests/make_cases.py --list      writes none, and lists the cases with their numbers and outcomes
 
-What is expected comes from tests/reference.py alone, and where 01 itself states an outcome, that is asserted too (`told`). The
+What is expected comes from tests/reference.py alone, and where 01 itself states an outcome, that is asserted too (`told`), as are
+the numbers and places of tests/hand_cases.py, which were worked out by hand. The
 head of crates/cases/src/main.rt has the form of both files. The vectors of tests/vectors are run with the rest; each of their
 folders has three texts, and what the program `answer` writes for them.
 """
 import os
 import sys
 
+import hand_cases
 import reference
 from reference import NEEDED
 
@@ -314,7 +316,17 @@ def maxima():
     yield Case("8192 values", (schema, lines(("N", 1), ("N", 2), full), query), told=(0, 0, 3, 1))
 
 
-GROUPS = (vectors, samples, rooms, areas, doubling, large, longest, worst, maxima)
+# ---- number and place worked out by hand
+
+
+def by_hand():
+    for i, (number, place, texts) in enumerate(hand_cases.CASES, 1):
+        case = Case("by hand %d" % i, texts, call=SIZE)
+        assert case.expected()[0][:2] == (number, place), (case.name, number, place, case.expected()[0])
+        yield case
+
+
+GROUPS = (vectors, samples, rooms, areas, doubling, large, longest, worst, maxima, by_hand)
 
 
 def main(only_list):

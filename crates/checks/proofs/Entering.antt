@@ -64,7 +64,7 @@ module _ (n : ℕ) (rs : List Row) (room : 3592 ≤ n) (few : length rs ≤ 256)
       laid-length 8 (table 10 0 rs) (replicate n 0) (omega (arith, wide-table-length 10 rs refl, entries-counted rs)) ∙ z in
       laid-length 0 (counted 10 rs ∷ []) (entriesLaid n rs) (omega arith) ∙ l
 
-  pub query-count : cell (queryArea n rs) 0 ≡ length rs
+  query-count : cell (queryArea n rs) 0 ≡ length rs
   unfolding queryArea cell
   query-count = laid-in 0 (counted 10 rs ∷ []) (entriesLaid n rs) 0 (omega arith) (omega arith) ∙ entries-counted rs
 

@@ -40,7 +40,7 @@ module _ (check : Check Row) (p : Row → Bool) (w : Row → ℕ) (n : ℕ)
           omega arith
       go ih false e = (rw (e, keepIf) at ih) h
 
-  pub total-fits : (rs : List Row) → firstLine check rs ≡ none → sumOf w (those p rs) ≤ n
+  total-fits : (rs : List Row) → firstLine check rs ≡ none → sumOf w (those p rs) ≤ n
   total-fits rs h = omega (arith, total-from [] rs (clean check [] 1 rs h) (omega arith))
 
 sum-ones : (rs : List Row) → sumOf (λ _. 1) rs ≡ length rs
@@ -48,7 +48,7 @@ sum-ones [] = refl
 sum-ones (r ∷ rs) = omega (arith, sum-ones rs)
 
 -- the rows of a kind: each has fewer than n before it, so that there are at most n
-pub count-fits : (check : Check Row) (p : Row → Bool) (n : ℕ)
+count-fits : (check : Check Row) (p : Row → Bool) (n : ℕ)
     → ((before : List Row) (r : Row) (after : List Row) → Calm (check before r after) → p r ≡ true → length (those p before) < n)
     → (rs : List Row) → firstLine check rs ≡ none → length (those p rs) ≤ n
 count-fits check p n keeps rs h =

@@ -1,25 +1,20 @@
--- The verdict, check by check: what the code's answers say of the first check that is offended. Assumes nothing.
-use Prim.Native.Nat.{ℕ, zero, suc, _≤_, _<_}
+-- The verdict on a list of checks, check by check: what the code's answers say of the first check that is offended. Assumes nothing.
+use Prim.Native.Nat.{ℕ, _≤_, _<_}
 use native.Mathlib.Omega.{arith}
-use mathlib.Core.Path.{_≡_, refl, sym, ap, _∙_, subst}
-use mathlib.Core.Bool.{Bool, true, false, true≢false}
-use mathlib.Core.List.{List, [], _∷_}
+use mathlib.Core.Path.{_≡_, refl, sym, ap, _∙_}
+use mathlib.Core.Bool.{true, false, true≢false}
+use mathlib.Core.List.{List, [], _∷_, _++_, map}
 use mathlib.Core.Option.{Option, none, some}
 use lib.Dec.{ltb}
 use lib.ListN.{length}
-use borrow.Author.Tests.{lt-ltb, le-ltb}
-use Rattle.rules.specs.Text.{Line, Row, row, rows, lines, fields}
-use Rattle.rules.specs.Search.{Check, firstLine, spot, spotOr, whole, orElse}
-use Rattle.rules.specs.Forms.{Form, breaks, textForm, longest}
+use Rattle.rules.specs.Text.{Row, rows, lines}
+use Rattle.rules.specs.Search.{Check, firstLine, spot, spotOr}
 use Rattle.rules.specs.Answer.{Numbered, _by_, verdict}
 use Rattle.rules.specs.declared.Spot.{Spot}
-use Rattle.rules.proofs.Clean.{Each, each-map}
+use Rattle.rules.proofs.Clean.{Each}
 use Rattle.rules.proofs.Places.{place-is-first}
-use Rattle.text.specs.Line.{padded, rowFrom}
-use Rattle.tables.specs.Fill.{Plain, whole as wholeRow}
-use Rattle.form.specs.Form.{formsOf}
-use Rattle.form.proofs.Readable.{readable}
-use Rattle.search.specs.Search.{Areas, SchemaReady, GraphReady, Ready, plainCheck}
+use Rattle.tables.specs.Fill.{Plain}
+use Rattle.search.specs.Search.{Areas, SchemaReady, GraphReady, Ready, SearchedFor, plainCheck}
 use Rattle.checks.specs.declared.Verdict.{Verdict}
 use Rattle.checks.specs.Verdict.{refusedBy, judged}
 
@@ -33,15 +28,58 @@ pub judged-past : (n : ℕ) (o : Option Spot) (cs : List Numbered) → o ≡ non
 unfolding judged
 judged-past n o cs e = rw (e, verdict)
 
--- ---- places as the code answers them: line 0 where no line offends
+pub judged-none : judged [] ≡ refusedBy 0 (spot 0 0)
+unfolding judged
+judged-none = refl
 
-found-spot : (o : Option Spot) (p : Spot) → p ≡ spotOr o → 0 < p .line → o ≡ some p
-found-spot none p e h = absurd (omega (arith, ap (λ (q : Spot). q .line) e))
-found-spot (some q) p e h = ap {B = Option Spot} some (sym e)
+-- ---- two lists of checks
+
+abbrev pub Passes : Numbered → Type 0
+Passes c = c .place ≡ none
+
+abbrev pub Positive : Numbered → Type 0
+Positive c = 0 < c .number
+
+abbrev numbered : Verdict → ℕ
+numbered v = v .number
+
+-- number 0 says that every check is passed, for no check has the number 0
+pub passed : (cs : List Numbered) → Each Positive cs → judged cs .number ≡ 0 → Each Passes cs
+unfolding refusedBy
+passed [] p h = tt
+passed (c ∷ cs) p h = go (λ k. passed cs (p .1) k) (c .place) refl
+  where
+    go : (judged cs .number ≡ 0 → Each Passes cs) → (o : Option Spot) → c .place ≡ o → Each Passes (c ∷ cs)
+    go rest none e = (e, rest (ap numbered (sym (judged-past (c .number) (c .place) cs e)) ∙ h))
+    go rest (some s) e = absurd (omega (arith, p .0, ap numbered (sym (judged-at (c .number) (c .place) cs s e)) ∙ h))
+
+-- a refusal by the first list decides
+pub front : (cs ds : List Numbered) → (judged cs .number ≡ 0 → ⊥) → judged (cs ++ ds) ≡ judged cs
+unfolding judged refusedBy
+front [] ds h = absurd (h refl)
+front (c ∷ cs) ds h = go (λ k. front cs ds k) (c .place) refl
+  where
+    go : ((judged cs .number ≡ 0 → ⊥) → judged (cs ++ ds) ≡ judged cs) → (o : Option Spot) → c .place ≡ o
+        → judged (c ∷ (cs ++ ds)) ≡ judged (c ∷ cs)
+    go rest none e =
+        let past = judged-past (c .number) (c .place) cs e in
+        judged-past (c .number) (c .place) (cs ++ ds) e ∙ rest (λ z. h (ap numbered past ∙ z)) ∙ sym past
+    go rest (some s) e = judged-at (c .number) (c .place) (cs ++ ds) s e ∙ sym (judged-at (c .number) (c .place) cs s e)
+
+-- where the first list is passed, the second decides
+pub behind : (cs ds : List Numbered) → Each Passes cs → judged (cs ++ ds) ≡ judged ds
+behind [] ds h = refl
+behind (c ∷ cs) ds h = judged-past (c .number) (c .place) (cs ++ ds) (h .0) ∙ behind cs ds (h .1)
+
+-- ---- places as the code answers them: line 0 where no line offends
 
 module _ {A : Type 0} (check : Check A) (rs : List A) (p : Spot) (e : p ≡ spotOr (firstLine check rs)) where
   pub line-found : 0 < p .line → firstLine check rs ≡ some p
-  line-found h = found-spot (firstLine check rs) p e h
+  line-found h = go (firstLine check rs) e
+    where
+      go : (o : Option Spot) → p ≡ spotOr o → o ≡ some p
+      go none q = absurd (omega (arith, ap (λ (r : Spot). r .line) q))
+      go (some r) q = ap {B = Option Spot} some (sym q)
 
   pub none-found : p .line ≤ 0 → firstLine check rs ≡ none
   none-found h = go (firstLine check rs) refl
@@ -53,19 +91,25 @@ module _ {A : Type 0} (check : Check A) (rs : List A) (p : Spot) (e : p ≡ spot
           let same : p ≡ r = e ∙ ap spotOr q in
           absurd (omega (arith, ap (λ (z : Spot). z .line) same, first .line))
 
--- ---- the text form
+-- ---- search after search
 
-module _ (fs : List Form) (s : List ℕ) where
-  pub too-long : 65535 < length s → textForm fs s ≡ some (spot 0 0)
-  too-long h = rw (lt-ltb 65535 (length s) h)
+-- The verdict w is that on the searches for the checks with these numbers, and on the checks behind them.
+pub record Left (check : ℕ → Check Row) (rs : List Row) (last : List Numbered) (w : Verdict) (ns : List ℕ) : Type 0 where
+  pub is : w ≡ judged (map (λ n. n by firstLine (check n) rs) ns ++ last)
 
-  pub form-is : length s ≤ 65535 → textForm fs s ≡ firstLine (breaks fs) (lines s)
-  form-is h = rw (le-ltb 65535 (length s) h)
+module _ {check : ℕ → Check Row} {rs : List Row} {last : List Numbered} {w : Verdict} {n : ℕ} {ns : List ℕ}
+    (left : Left check rs last w (n ∷ ns)) {p : Spot} (found : p ≡ spotOr (firstLine (check n) rs)) where
+  -- the first check that is offended decides
+  pub stop : 0 < p .line → {v : Verdict} → v ≡ refusedBy n p → v ≡ w
+  stop h e = e ∙ sym (left .is ∙ judged-at n _ _ p (line-found (check n) rs p found h))
 
--- every line of a text that keeps its form can be read
-pub plain-lines : (which : ℕ) (s : List ℕ) → textForm (formsOf which) s ≡ none → Each Plain (lines s)
-unfolding wholeRow
-plain-lines which s h = each-map _ Plain (λ l k. record { read = k }) (lines s) (readable which s h)
+  -- a check that is passed is struck off
+  pub pass : p .line ≤ 0 → Left check rs last w ns
+  pass h = record { is = left .is ∙ judged-past n _ _ (none-found (check n) rs p found h) }
+
+-- where none is left, all are passed
+pub all-passed : {check : ℕ → Check Row} {rs : List Row} {v w : Verdict} → Left check rs [] w [] → v ≡ refusedBy 0 (spot 0 0) → v ≡ w
+all-passed left e = e ∙ sym (left .is ∙ judged-none)
 
 -- ---- what the search may be asked
 
@@ -73,10 +117,16 @@ pub ready-plain : (n : ℕ) (rs : List Row) (x : Areas) → plainCheck n ≡ tru
 unfolding Ready
 ready-plain n rs x h = (λ q. absurd (true≢false (sym h ∙ q)), λ q. absurd (true≢false (sym h ∙ q)))
 
-pub ready-schema : (n : ℕ) (rs : List Row) (x : Areas) → ltb n 20 ≡ true → SchemaReady rs x → Ready n rs x
-unfolding Ready
-ready-schema n rs x h r = (λ _ _. r, λ _ q. absurd (true≢false (sym h ∙ q)))
+-- what the search for a check is asked with, of the text s in the areas x
+abbrev pub Asked : ℕ → List ℕ → Areas → Type 0
+Asked n s x = SearchedFor n × ((length s ≤ 65535) × (Each Plain (lines s) × Ready n (rows s) x))
 
-pub ready-graph : (n : ℕ) (rs : List Row) (x : Areas) → ltb n 20 ≡ false → GraphReady rs x → Ready n rs x
+pub ask-schema : (n : ℕ) (s : List ℕ) (x : Areas) → SearchedFor n → ltb n 20 ≡ true
+    → (length s ≤ 65535) × (Each Plain (lines s) × SchemaReady (rows s) x) → Asked n s x
 unfolding Ready
-ready-graph n rs x h r = (λ _ q. absurd (true≢false (sym q ∙ h)), λ _ _. r)
+ask-schema n s x f h r = (f, (r .0, (r .1 .0, (λ _ _. r .1 .1, λ _ q. absurd (true≢false (sym h ∙ q))))))
+
+pub ask-graph : (n : ℕ) (s : List ℕ) (x : Areas) → SearchedFor n → ltb n 20 ≡ false
+    → (length s ≤ 65535) × (Each Plain (lines s) × GraphReady (rows s) x) → Asked n s x
+unfolding Ready
+ask-graph n s x f h r = (f, (r .0, (r .1 .0, (λ _ q. absurd (true≢false (sym q ∙ h)), λ _ _. r .1 .1))))

@@ -1,4 +1,5 @@
 pub mod Fitting
 pub mod Entering
 pub mod Judging
+pub mod Opening
 pub mod SchemaJudging

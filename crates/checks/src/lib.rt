@@ -1,4 +1,5 @@
-// The verdicts on the three texts: every check in ascending order, each over its whole text before the next.
+// The type of a verdict, the first two checks of any text, and the verdict on a schema's text: every check in ascending order, each
+// over its whole text before the next.
 ghost use mathlib.Core.Path.{_≡_};
 ghost use Prim.Native.Nat.{_≤_};
 ghost use lib.ListN.{length};
@@ -6,7 +7,7 @@ ghost use Rattle.rules.specs.Search.{spot};
 ghost use Rattle.rules.specs.Text.{rows, lines};
 ghost use Rattle.rules.proofs.Clean.{Each};
 ghost use Rattle.tables.specs.Fill.{Plain};
-ghost use Rattle.checks.specs.Verdict.{refusedBy, judged, laterSchema, SchemaJudged};
+ghost use Rattle.checks.specs.Verdict.{refusedBy, judged, Opens, formChecks, laterSchema, SchemaJudged};
 ghost use Rattle.search.specs.Search.{areas, SchemaReady};
 use rules::Spot;
 
@@ -28,6 +29,25 @@ pub fn nowhere() -> Spot
     ensures { λ r. ⌜ r ≡ spot 0 0 ⌝ }
 {
     Spot { line: 0, field: 0 }
+}
+
+// Checks n and n + 1 of a text, its form and its maxima, where n is 10, 20 or 30. What the area holds does not matter.
+pub fn judge_form(n: u32, s: &[u8], a: &[u32]) -> Verdict
+    requires { ⌜ Opens n ⌝ }
+    ensures { λ r. ⌜ r ≡ judged (formChecks n (now (s .entry))) ⌝ }
+{
+    if 65535 < s.len() {
+        return refuse(n, nowhere());
+    }
+    let b = form::first_broken(n, s);
+    if 0 < b.line {
+        return refuse(n, b);
+    }
+    let c = search::first_offence(n + 1, s, a, a, a, a);
+    if 0 < c.line {
+        return refuse(n + 1, c);
+    }
+    refuse(0, nowhere())
 }
 
 // Checks 12 to 16 of a schema that is laid out.
@@ -64,16 +84,9 @@ pub fn judge_schema(s: &[u8], a: &mut [u32]) -> Verdict
     requires { ⌜ 9992 ≤ length (now a) ⌝ }
     ensures { λ r. ⌜ SchemaJudged (now (s .entry)) (length (now (a .entry))) (now (a .exit)) r ⌝ }
 {
-    if 65535 < s.len() {
-        return refuse(10, nowhere());
-    }
-    let b = form::first_broken(10, s);
-    if 0 < b.line {
-        return refuse(10, b);
-    }
-    let c = search::first_offence(11, s, a, a, a, a);
-    if 0 < c.line {
-        return refuse(11, c);
+    let b = judge_form(10, s, a);
+    if b.number != 0 {
+        return b;
     }
     tables::lay_schema(s, a);
     judge_schema_rows(s, a)

@@ -74,7 +74,8 @@ module _ (w : World) (q : List ℕ) (k x : ℕ) where
 
 -- ---- the objects of the edges from j on, and the bracket behind them; e is the first of these edges
 
-pub edge-less : (g : List ℕ) (u : ℕ) (l : Label) (e e′ : ℕ) → e′ ≡ edgeFrom g u l (e + 1) → e < cell g 1 → cell g 1 - e′ < cell g 1 - e
+pub edge-less : (g : List ℕ) (u : ℕ) (l : Label) (e e′ : ℕ) → e′ ≡ edgeFrom g u l (e + 1) → e < cell g 1
+    → cell g 1 - e′ < cell g 1 - e
 edge-less g u l e e′ is h = go (ltb e′ (cell g 1)) refl
   where
     go : (b : Bool) → ltb e′ (cell g 1) ≡ b → cell g 1 - e′ < cell g 1 - e
@@ -133,7 +134,8 @@ module _ (a g p v q : List ℕ) (k u : ℕ) where
 pub record Shaped (a g q : List ℕ) (k u : ℕ) (s : FieldKind) : Type 0 where
   pub is : shapeBy s ≡ shapeAt a g u (askedAt q k .field)
 
-pub shaped : (a g q : List ℕ) (k u : ℕ) (s : FieldKind) {f : ℕ} → f ≡ wideAt q 8 k 4 → shapeBy s ≡ shapeAt a g u (fieldNo f) → Shaped a g q k u s
+pub shaped : (a g q : List ℕ) (k u : ℕ) (s : FieldKind) {f : ℕ} → f ≡ wideAt q 8 k 4
+    → shapeBy s ≡ shapeAt a g u (fieldNo f) → Shaped a g q k u s
 shaped a g q k u s z h = record { is = rw (asked-field q k, ← z) h }
 
 module _ {a g q : List ℕ} {k u : ℕ} {s : FieldKind} (p v : List ℕ) (h : Shaped a g q k u s) where

@@ -41,6 +41,10 @@ room-same {o} {a} {b} {at} e h = subst (λ (x : List ℕ). Room o at x) e h
 pub wrote-same : {o a b o₁ : List ℕ} {at p : ℕ} → a ≡ b → Wrote o at b o₁ p → Wrote o at a o₁ p
 wrote-same {o} {a} {b} {o₁} {at} {p} e w = subst (λ (x : List ℕ). Wrote o at x o₁ p) (sym e) w
 
+-- the room for one token is that for any other
+pub room-one : {o : List ℕ} {at x y : ℕ} → Room o at (x ∷ []) → Room o at (y ∷ [])
+room-one h = record { fits = h .fits }
+
 -- ---- what is left to write
 
 -- r is a, and then s: a record, so that antt can read a and s off it

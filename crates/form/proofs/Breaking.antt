@@ -1,5 +1,5 @@
 -- The loop over the lines of a text: the first line that breaks its form. Assumes nothing.
-use Prim.Native.Nat.{ℕ, zero, suc, _+_, _≤_, _<_}
+use Prim.Native.Nat.{ℕ, zero, suc, _+_, _-_, _≤_, _<_}
 use mathlib.Core.Path.{_≡_, refl, sym, ap, _∙_}
 use mathlib.Core.Bool.{Bool, true, false, not, cond}
 use mathlib.Core.List.{List, [], _∷_}
@@ -82,7 +82,8 @@ module _ (e : Bool) (n : ℕ) where
     letter-next b fs h =
         by-test (eqb b 0)
         (λ t. absurd (some-none (simp t at h)))
-        (λ t. read-next (badField 2 fs) (faultIf (not (readRow b fs e n .ended)) 0) (formFault which b (readRow b fs e n .count) (readRow b fs e n .nums)) (simp t at h))
+        (λ t. let r = readRow b fs e n in
+        read-next (badField 2 fs) (faultIf (not (r .ended)) 0) (formFault which b (r .count) (r .nums)) (simp t at h))
 
     module _ (b : ℕ) (fs : List (List ℕ)) where
       row-lettered : isLetter b ≡ true → rowFrom ((b ∷ []) ∷ fs) e n ≡ readRow b fs e n
@@ -164,8 +165,14 @@ module _ (s : List ℕ) (at : ℕ) (r : Row) (h : at < length s) (e : r ≡ rowA
         ∙ from-next (lineAt s at .ended) (nextAt s at) which (fields (lineAt s at .bytes))
         (as-fine (lineFault which (rowAt s at)) (sym (ap (λ (q : Row). asFault (lineFault which q)) e) ∙ sym j ∙ g))
 
-    pub row-inside : f ≡ Fine → (at < r .next) × (r .next ≤ length s)
-    row-inside g = let n = next-is g in omega (arith, next-inside s at h)
+    pub next-within : f ≡ Fine → r .next ≤ length s
+    next-within g = omega (arith, next-is g, next-inside s at h)
+
+    pub next-less : f ≡ Fine → length s - r .next < length s - at
+    next-less g = omega (arith, next-is g, next-inside s at h)
+
+    pub next-line : (line : ℕ) → f ≡ Fine → line ≤ at + 1 → line + 1 ≤ r .next + 1
+    next-line line g m = omega (arith, next-is g, next-inside s at h)
 
     pub broken-stop : (line g : ℕ) → BrokenLeft which s at line → f ≡ Field g
         → record { line = line; field = g } ≡ spotOr (firstLine (breaks (formsOf which)) (lines s))
@@ -184,3 +191,5 @@ module _ (s : List ℕ) (at : ℕ) (r : Row) (h : at < length s) (e : r ≡ rowA
         (as-fine (fault (breaks (formsOf which) [] (lineAt s at) [])) (told ∙ b))
         ∙ ap (λ (n : ℕ). brokenFrom (formsOf which) (suc line) (lines (drop n s))) (sym (next-is b))
         ∙ ap (λ (n : ℕ). brokenFrom (formsOf which) n (lines (drop (r .next) s))) l
+
+pub ruleset line-turn-laws = (broken-on, next-within, next-less, next-line)

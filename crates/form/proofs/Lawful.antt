@@ -8,26 +8,30 @@ use native.Mathlib.Omega.{arith}
 use lib.Dec.{eqb, ltb, eqb·suc-zero}
 use lib.ListN.{length, getD, take, drop}
 use borrow.Author.Tests.{eqb-true, ltb-false}
-use Rattle.rules.specs.Text.{Line, fields, tab, isNumber, leading, pairs, onFirstField, A, E, F, G, H, I, M, N, O, P, Q, S, T, U}
-use Rattle.rules.specs.Search.{testEach, _#_, worse, faultIf, faultOf, fault}
-use Rattle.rules.specs.Forms.{Form, schemaForms, graphForms, queryForms, formTests, fieldTests, lineTests, breaks, risingPairs, withPairs, labelled, valued}
+use Rattle.rules.specs.Text.{Line, Row, Pair, argNo, fields, tab, isNumber, leading, pairs, onFirstField}
+use Rattle.rules.specs.Text.{A, E, F, G, H, I, M, N, O, P, Q, S, T, U}
+use Rattle.rules.specs.Search.{Test, testEach, _#_, worse, faultIf, faultOf, fault}
+use Rattle.rules.specs.Forms.{Form, schemaForms, graphForms, queryForms, risingPairs, withPairs, labelled, valued}
+use Rattle.rules.specs.Forms.{formTests, fieldTests, lineTests, breaks}
 use Rattle.rules.proofs.Clean.{Each}
 use Rattle.rules.proofs.Bools.{clash}
 use Rattle.rules.proofs.Parting.{Filled, fields-filled}
 use Rattle.text.specs.Line.{padded, badField, isLetter, unreadRow, readRow, rowFrom}
 use Rattle.text.proofs.Rows.{padded-at}
 use Rattle.text.proofs.Tools.{by-test}
-use Rattle.form.specs.Form.{formsOf, countFault, markFault, pairsFault, labelledFault, valuedFault, schemaFault, graphFault, queryFault, formFault, lineFault}
-use Rattle.form.proofs.Worse.{worse-none, worse-assoc, worse-comm, fault-append, gives-way, gives-way-to, same-twice, wins, from-less, each-from, pairs-from}
+use Rattle.form.specs.Form.{formsOf, countFault, markFault, pairsFault, labelledFault, valuedFault}
+use Rattle.form.specs.Form.{schemaFault, graphFault, queryFault, formFault, lineFault}
+use Rattle.form.proofs.Worse.{worse-none, worse-assoc, worse-comm, fault-append, gives-way, gives-way-to, same-twice}
+use Rattle.form.proofs.Worse.{wins, from-less, each-from, pairs-from}
 
 -- ---- the row of the rules, of a letter and numbers
 
-abbrev rowWith : ℕ → List ℕ → Rattle.rules.specs.Text.Row
+abbrev rowWith : ℕ → List ℕ → Row
 rowWith l ns = record { letter = l; numbers = ns }
 
 -- ---- a letter that no form has
 
-pub no-form : (fs : List Form) (r : Rattle.rules.specs.Text.Row) → Each (λ f. eqb (r .letter) (f .letter) ≡ false) fs
+pub no-form : (fs : List Form) (r : Row) → Each (λ f. eqb (r .letter) (f .letter) ≡ false) fs
     → formTests fs r ≡ (1 # true) ∷ []
 no-form [] r e = refl
 no-form (f ∷ fs) r e = rw (e .0, formTests) (no-form fs r (e .1))
@@ -107,7 +111,7 @@ pairs-take (suc n) (suc zero) ns h = absurd (omega arith)
 pairs-take (suc n) (suc (suc k)) [] h = refl
 pairs-take (suc n) (suc (suc k)) (a ∷ []) h = refl
 pairs-take (suc n) (suc (suc k)) (a ∷ v ∷ ns) h =
-    ap (λ (ps : List Rattle.rules.specs.Text.Pair). record { arg = Rattle.rules.specs.Text.argNo a; value = v } ∷ ps) (pairs-take n k ns (omega arith))
+    ap (λ (ps : List Pair). record { arg = argNo a; value = v } ∷ ps) (pairs-take n k ns (omega arith))
 
 pairs-padded : (n : ℕ) (ns : List ℕ) → n ≤ 4 → pairs n (drop 4 (take (length ns) (padded 12 ns))) ≡ pairs n (drop 4 ns)
 pairs-padded n ns h =
@@ -119,9 +123,9 @@ module _ (l : ℕ) (ns : List ℕ) where
   with-pairs =
       rw (padded-at 12 ns 3 (omega arith))
       (by-test (ltb 4 (getD ns 3 0))
-      (λ t. simp t (sym (wins 5 (faultOf (risingPairs (pairs (getD ns 3 0) (drop 4 ns)))) (omega arith)
-      (from-less 5 8 (faultOf (risingPairs (pairs (getD ns 3 0) (drop 4 ns)))) (omega arith) (pairs-from (pairs (getD ns 3 0) (drop 4 ns)))))))
-      (λ t. simp t (ap (λ (ps : List Rattle.rules.specs.Text.Pair). faultOf (risingPairs ps)) (pairs-padded (getD ns 3 0) ns (ltb-false 4 (getD ns 3 0) t)))))
+      (λ t. let ps = pairs (getD ns 3 0) (drop 4 ns) in
+      simp t (sym (wins 5 (faultOf (risingPairs ps)) (omega arith) (from-less 5 8 (faultOf (risingPairs ps)) (omega arith) (pairs-from ps)))))
+      (λ t. simp t (ap (λ (ps : List Pair). faultOf (risingPairs ps)) (pairs-padded (getD ns 3 0) ns (ltb-false 4 (getD ns 3 0) t)))))
 
   labelled-form : labelledFault (length ns) (padded 12 ns) ≡ faultOf (labelled (rowWith l ns))
   unfolding labelledFault countFault
@@ -137,7 +141,9 @@ module _ (l : ℕ) (ns : List ℕ) where
       let b : Option ℕ = faultIf (ltb (length ns) (4 + 2 * getD ns 3 0)) 0 in
       rw (padded-at 12 ns 2 (omega arith), padded-at 12 ns 3 (omega arith))
       (ap (worse (faultIf (ltb 1 (getD ns 2 0)) 4))
-      (worse-comm (pairsFault (length ns) (padded 12 ns)) (worse a b) ∙ worse-assoc a b (pairsFault (length ns) (padded 12 ns)) ∙ ap (λ (x : Option ℕ). worse a (worse b x)) with-pairs))
+      (worse-comm (pairsFault (length ns) (padded 12 ns)) (worse a b)
+      ∙ worse-assoc a b (pairsFault (length ns) (padded 12 ns))
+      ∙ ap (λ (x : Option ℕ). worse a (worse b x)) with-pairs))
 
   -- ---- letter by letter
 
@@ -184,7 +190,8 @@ module _ (ns : List ℕ) (l : ℕ) where
       (λ h. by-letter R l G (counted-form G ns 2)
       (λ g. by-letter R l M (counted-form M ns 2)
       (λ m. by-letter R l Q (counted-form Q ns 1)
-      (λ q. simp (s, o, i, u, f, a, h, g, m, q) (sym (ap faultOf (no-form schemaForms (rowWith l ns) (s, (o, (i, (u, (f, (a, (h, (g, (m, (q, tt)))))))))))))))))))))))
+      (λ q. simp (s, o, i, u, f, a, h, g, m, q)
+      (sym (ap faultOf (no-form schemaForms (rowWith l ns) (s, (o, (i, (u, (f, (a, (h, (g, (m, (q, tt)))))))))))))))))))))))
     where
       R : ℕ → Type 0
       R k = Agrees schemaFault schemaForms ns k
@@ -212,7 +219,7 @@ module _ (which : ℕ) (ended : Bool) (n : ℕ) where
   unlettered l fs ns h =
       ap (worse (faultIf (not ended) 0))
       (fault-append (testEach (λ s. not (isNumber s)) 1 2 fs) (formTests (formsOf which) (rowWith l ns))
-      ∙ ap (λ (ts : List Rattle.rules.specs.Search.Test). worse (badTests 2 fs) (faultOf ts)) (no-letter which l ns h)
+      ∙ ap (λ (ts : List Test). worse (badTests 2 fs) (faultOf ts)) (no-letter which l ns h)
       ∙ worse-comm (badTests 2 fs) (some 1)
       ∙ wins 1 (badTests 2 fs) (omega arith) (from-less 1 2 (badTests 2 fs) (omega arith) (each-from (λ s. not (isNumber s)) 2 fs)))
       ∙ gives-way (not ended) 0

@@ -1,22 +1,26 @@
 -- The faults of a record and of a line, test by test, as the code makes the tests. Assumes nothing.
 use Prim.Native.Nat.{ℕ, zero, suc, _+_, _*_, _≤_, _<_}
-use mathlib.Core.Path.{_≡_, refl, sym, ap, _∙_}
+use mathlib.Core.Path.{_≡_, refl, sym, ap, subst, _∙_}
+use mathlib.Core.Logic.{inl, inr}
 use mathlib.Core.Bool.{Bool, true, false, not, _&&_, _||_}
-use mathlib.Core.List.{List}
+use mathlib.Core.List.{List, [], _∷_}
 use mathlib.Core.Option.{Option, none, some}
 use native.Mathlib.Omega.{arith}
 use lib.Dec.{eqb, ltb}
 use lib.ListN.{getD, take, drop}
 use mir.Syntax.{w32, w64}
 use mir.Val.{Fits}
-use borrow.Author.Tests.{eq-eqb, ne-eqb, lt-ltb, le-ltb, ltb-true}
+use types.Run.{OneOf}
+use borrow.Author.Tests.{eq-eqb, ne-eqb, eqb-true, eqb-false, lt-ltb, le-ltb, ltb-true}
+use Rattle.rules.proofs.Clean.{Each}
 use Rattle.rules.specs.Text.{pairs, A, E, F, G, H, I, M, N, O, P, Q, S, T, U}
 use Rattle.rules.specs.Search.{worse, faultIf, faultOf, asFault}
 use Rattle.rules.specs.Forms.{risingPairs}
 use Rattle.rules.specs.declared.Fault.{Fault}
 use Rattle.rules.specs.declared.Fault.the-variants.{Fine, Field}
 use Rattle.text.proofs.Tools.{by-test}
-use Rattle.form.specs.Form.{countFault, orCount, markFault, pairsFault, labelledFault, valuedFault, schemaFault, graphFault, queryFault, formFault}
+use Rattle.form.specs.Form.{countFault, orCount, markFault, pairsFault, labelledFault, valuedFault}
+use Rattle.form.specs.Form.{schemaFault, graphFault, queryFault, formFault}
 use Rattle.form.proofs.Worse.{From, from-less, pairs-from, stays, wins, worse-assoc}
 
 -- ---- the numbers' count
@@ -150,52 +154,49 @@ pub ruleset valued-laws = (valued-mark, valued-one, valued-list)
 
 -- ---- the records of each text, letter by letter
 
+-- one of some letters that all have a property has it
+one-of : (P : ℕ → Type 0) (l : ℕ) (ks : List ℕ) → OneOf ks l → Each P ks → P l
+one-of P l [] h e = absurd h
+one-of P l (k ∷ []) h e = subst P (sym h) (e .0)
+one-of P l (k ∷ k′ ∷ ks) (inl h) e = subst P (sym h) (e .0)
+one-of P l (k ∷ k′ ∷ ks) (inr h) e = one-of P l (k′ ∷ ks) h (e .1)
+
 module _ (l count : ℕ) (nums : List ℕ) where
+  -- a letter whose record has n numbers and no other test
+  abbrev Counts : ℕ → ℕ → Type 0
+  Counts n k = schemaFault k count nums ≡ countFault n count
+
   module _ (r : Fault) where
-    schema-at : (k n : ℕ) → l ≡ k → schemaFault k count nums ≡ countFault n count → r ≡ asFault (countFault n count)
-        → r ≡ asFault (schemaFault l count nums)
-    schema-at k n e s f = f ∙ ap asFault (sym s) ∙ ap (λ (x : ℕ). asFault (schemaFault x count nums)) (sym e)
+    schema-count : (n : ℕ) → Counts n l → r ≡ asFault (countFault n count) → r ≡ asFault (schemaFault l count nums)
+    schema-count n s f = f ∙ ap asFault (sym s)
 
-    pub schema-O : l ≡ O → r ≡ asFault (countFault 0 count) → r ≡ asFault (schemaFault l count nums)
+    pub schema-none : OneOf (I ∷ O ∷ U ∷ []) l → r ≡ asFault (countFault 0 count) → r ≡ asFault (schemaFault l count nums)
     unfolding schemaFault
-    schema-O e f = schema-at O 0 e refl f
+    schema-none k = schema-count 0 (one-of (Counts 0) l (I ∷ O ∷ U ∷ []) k (refl, (refl, (refl, tt))))
 
-    pub schema-I : l ≡ I → r ≡ asFault (countFault 0 count) → r ≡ asFault (schemaFault l count nums)
+    pub schema-one : OneOf (A ∷ Q ∷ []) l → r ≡ asFault (countFault 1 count) → r ≡ asFault (schemaFault l count nums)
     unfolding schemaFault
-    schema-I e f = schema-at I 0 e refl f
+    schema-one k = schema-count 1 (one-of (Counts 1) l (A ∷ Q ∷ []) k (refl, (refl, tt)))
 
-    pub schema-U : l ≡ U → r ≡ asFault (countFault 0 count) → r ≡ asFault (schemaFault l count nums)
+    schema-two : OneOf (G ∷ H ∷ M ∷ S ∷ []) l → r ≡ asFault (countFault 2 count) → r ≡ asFault (schemaFault l count nums)
     unfolding schemaFault
-    schema-U e f = schema-at U 0 e refl f
+    schema-two k = schema-count 2 (one-of (Counts 2) l (G ∷ H ∷ M ∷ S ∷ []) k (refl, (refl, (refl, (refl, tt)))))
 
-    pub schema-A : l ≡ A → r ≡ asFault (countFault 1 count) → r ≡ asFault (schemaFault l count nums)
-    unfolding schemaFault
-    schema-A e f = schema-at A 1 e refl f
+    -- the code's `match` tests M and S by themselves, and G and H as those between F and I
+    pub schema-far : OneOf (M ∷ S ∷ []) l → r ≡ asFault (countFault 2 count) → r ≡ asFault (schemaFault l count nums)
+    schema-far k = schema-two (inr (inr k))
 
-    pub schema-Q : l ≡ Q → r ≡ asFault (countFault 1 count) → r ≡ asFault (schemaFault l count nums)
-    unfolding schemaFault
-    schema-Q e f = schema-at Q 1 e refl f
-
-    pub schema-S : l ≡ S → r ≡ asFault (countFault 2 count) → r ≡ asFault (schemaFault l count nums)
-    unfolding schemaFault
-    schema-S e f = schema-at S 2 e refl f
-
-    pub schema-H : l ≡ H → r ≡ asFault (countFault 2 count) → r ≡ asFault (schemaFault l count nums)
-    unfolding schemaFault
-    schema-H e f = schema-at H 2 e refl f
-
-    pub schema-G : l ≡ G → r ≡ asFault (countFault 2 count) → r ≡ asFault (schemaFault l count nums)
-    unfolding schemaFault
-    schema-G e f = schema-at G 2 e refl f
-
-    pub schema-M : l ≡ M → r ≡ asFault (countFault 2 count) → r ≡ asFault (schemaFault l count nums)
-    unfolding schemaFault
-    schema-M e f = schema-at M 2 e refl f
+    pub schema-near : (l ≡ F → ⊥) → F ≤ l → l < I → r ≡ asFault (countFault 2 count) → r ≡ asFault (schemaFault l count nums)
+    schema-near f p q =
+        by-test (eqb l G)
+        (λ t. schema-two (inl (eqb-true l G t)))
+        (λ t. let n = eqb-false l G t in let h : l ≡ H = omega arith in schema-two (inr (inl h)))
 
     pub schema-F : l ≡ F → getD nums 1 0 ≤ 1 → r ≡ asFault (countFault 2 count) → r ≡ asFault (schemaFault l count nums)
     unfolding schemaFault markFault
-    schema-F e h f =
-        schema-at F 2 e (ap (λ (t : Bool). worse (faultIf t 3) (countFault 2 count)) (le-ltb 1 (getD nums 1 0) h)) f
+    schema-F e h =
+        schema-count 2
+        (ap (λ (x : ℕ). schemaFault x count nums) e ∙ ap (λ (t : Bool). worse (faultIf t 3) (countFault 2 count)) (le-ltb 1 (getD nums 1 0) h))
 
   pub schema-mark : l ≡ F → 1 < getD nums 1 0 → Field 3 ≡ asFault (schemaFault l count nums)
   unfolding schemaFault markFault countFault
@@ -205,11 +206,22 @@ module _ (l count : ℕ) (nums : List ℕ) where
       ∙ ap (λ (t : Bool). asFault (worse (faultIf t 3) (countFault 2 count))) (lt-ltb 1 (getD nums 1 0) h)
       ∙ ap asFault (stays (not (eqb count 2)) 2))
 
-  pub schema-other : (l ≡ O → ⊥) → (l ≡ I → ⊥) → (l ≡ U → ⊥) → (l ≡ A → ⊥) → (l ≡ Q → ⊥) → (l ≡ S → ⊥) → (l ≡ H → ⊥)
-      → (l ≡ G → ⊥) → (l ≡ M → ⊥) → (l ≡ F → ⊥) → Field 1 ≡ asFault (schemaFault l count nums)
+  pub schema-other : (OneOf (I ∷ O ∷ U ∷ []) l → ⊥) → (OneOf (A ∷ Q ∷ []) l → ⊥) → (OneOf (M ∷ S ∷ []) l → ⊥) → (l ≡ F → ⊥)
+      → (F ≤ l → l < I → ⊥) → Field 1 ≡ asFault (schemaFault l count nums)
   unfolding schemaFault
-  schema-other o i u a q s h g m f =
-      simp (ne-eqb l O o, ne-eqb l I i, ne-eqb l U u, ne-eqb l A a, ne-eqb l Q q, ne-eqb l S s, ne-eqb l H h, ne-eqb l G g, ne-eqb l M m, ne-eqb l F f)
+  schema-other zero-numbers one far f near =
+      simp (
+        ne-eqb l I (λ e. zero-numbers (inl e)),
+        ne-eqb l O (λ e. zero-numbers (inr (inl e))),
+        ne-eqb l U (λ e. zero-numbers (inr (inr e))),
+        ne-eqb l A (λ e. one (inl e)),
+        ne-eqb l Q (λ e. one (inr e)),
+        ne-eqb l M (λ e. far (inl e)),
+        ne-eqb l S (λ e. far (inr e)),
+        ne-eqb l G (λ e. near (omega arith) (omega arith)),
+        ne-eqb l H (λ e. near (omega arith) (omega arith)),
+        ne-eqb l F f,
+      )
 
   pub graph-N : (r : Fault) → l ≡ N → r ≡ asFault (countFault 1 count) → r ≡ asFault (graphFault l count nums)
   unfolding graphFault
@@ -252,8 +264,7 @@ module _ (l count : ℕ) (nums : List ℕ) where
     unfolding formFault
     form-30 t u f = f ∙ simp (ne-eqb which 10 t, ne-eqb which 20 u)
 
-pub ruleset schema-laws =
-    (schema-O, schema-I, schema-U, schema-A, schema-Q, schema-S, schema-H, schema-G, schema-M, schema-F, schema-mark, schema-other)
+pub ruleset schema-laws = (schema-none, schema-one, schema-F, schema-mark)
 
 pub ruleset graph-laws = (graph-N, graph-E, graph-P, graph-other)
 

@@ -39,7 +39,8 @@ module _ (i a n : ℕ) where
       go (suc m) = refl
   rest-none (x ∷ y ∷ ns) h = absurd (omega arith)
 
-  rest-more : (x y : ℕ) (ns : List ℕ) → restFrom i a (suc n) (x ∷ y ∷ ns) ≡ worse (faultIf (not (ltb a x)) (6 + 2 * i)) (restFrom (i + 1) x n ns)
+  rest-more : (x y : ℕ) (ns : List ℕ)
+      → restFrom i a (suc n) (x ∷ y ∷ ns) ≡ worse (faultIf (not (ltb a x)) (6 + 2 * i)) (restFrom (i + 1) x n ns)
   unfolding restFrom
   rest-more x y ns =
       let e : 2 + (6 + 2 * i) ≡ 6 + 2 * (i + 1) = omega arith in
@@ -48,8 +49,9 @@ module _ (i a n : ℕ) where
   rest-from : (x : ℕ) (ns : List ℕ) → worse (some (6 + 2 * i)) (restFrom (i + 1) x n ns) ≡ some (6 + 2 * i)
   unfolding restFrom
   rest-from x ns =
-      wins (6 + 2 * i) (faultOf (rising (6 + 2 * (i + 1)) x (pairs n ns))) (omega arith)
-      (from-less (6 + 2 * i) (6 + 2 * (i + 1)) (faultOf (rising (6 + 2 * (i + 1)) x (pairs n ns))) (omega arith) (rising-from (6 + 2 * (i + 1)) x (pairs n ns)))
+      let later = faultOf (rising (6 + 2 * (i + 1)) x (pairs n ns)) in
+      wins (6 + 2 * i) later (omega arith)
+      (from-less (6 + 2 * i) (6 + 2 * (i + 1)) later (omega arith) (rising-from (6 + 2 * (i + 1)) x (pairs n ns)))
 
 module _ (count : ℕ) (nums : List ℕ) (i : ℕ) where
   pub rises-done : getD nums 3 0 ≤ i → risesLeft count nums i ≡ none
@@ -83,10 +85,14 @@ module _ (count : ℕ) (nums : List ℕ) (i : ℕ) where
     rises-turn =
         let e : getD nums 3 0 - i ≡ suc (getD nums 3 0 - (i + 1)) = omega arith in
         let f : 4 + 2 * i ≡ 2 + 2 * (i + 1) = omega arith in
-        ap (λ (m : ℕ). restFrom i (getD nums (2 + 2 * i) 0) m (drop (4 + 2 * i) (take count nums))) e
-        ∙ ap (restFrom i (getD nums (2 + 2 * i) 0) (suc (getD nums 3 0 - (i + 1)))) two-here
-        ∙ rest-more i (getD nums (2 + 2 * i) 0) (getD nums 3 0 - (i + 1)) (getD nums (4 + 2 * i) 0) (getD nums (suc (4 + 2 * i)) 0) (drop (4 + 2 * (i + 1)) (take count nums))
-        ∙ ap (λ (m : ℕ). worse (faultIf (not (ltb (getD nums (2 + 2 * i) 0) (getD nums (4 + 2 * i) 0))) (6 + 2 * i)) (restFrom (i + 1) (getD nums m 0) (getD nums 3 0 - (i + 1)) (drop (4 + 2 * (i + 1)) (take count nums)))) f
+        let last = getD nums (2 + 2 * i) 0 in
+        let next = getD nums (4 + 2 * i) 0 in
+        let left = getD nums 3 0 - (i + 1) in
+        let after = drop (4 + 2 * (i + 1)) (take count nums) in
+        ap (λ (m : ℕ). restFrom i last m (drop (4 + 2 * i) (take count nums))) e
+        ∙ ap (restFrom i last (suc left)) two-here
+        ∙ rest-more i last left next (getD nums (suc (4 + 2 * i)) 0) after
+        ∙ ap (λ (m : ℕ). worse (faultIf (not (ltb last next)) (6 + 2 * i)) (restFrom (i + 1) (getD nums m 0) left after)) f
 
     pub rises-stop : getD nums (4 + 2 * i) 0 ≤ getD nums (2 + 2 * i) 0 → risesLeft count nums i ≡ some (6 + 2 * i)
     unfolding risesLeft

@@ -5,12 +5,13 @@ ghost use lib.ListN.{length};
 ghost use Rattle.rules.specs.Text.{lines};
 ghost use Rattle.rules.specs.Search.{asFault, spotOr, firstLine};
 ghost use Rattle.rules.specs.Forms.{breaks};
-ghost use Rattle.form.specs.Form.{formsOf, countFault, orCount, pairsFault, labelledFault, valuedFault, schemaFault, graphFault, queryFault, formFault, lineFault};
+ghost use Rattle.form.specs.Form.{formsOf, countFault, orCount, pairsFault, labelledFault, valuedFault};
+ghost use Rattle.form.specs.Form.{schemaFault, graphFault, queryFault, formFault, lineFault};
 use rules::Fault;
 use rules::Spot;
 
 // An n above 4, or the first argument number that is not above the one before it.
-pub fn pairs_fault(count: usize, nums: [u32; 12]) -> Fault
+fn pairs_fault(count: usize, nums: [u32; 12]) -> Fault
     requires { ⌜ length nums ≡ 12 ⌝ }
     ensures { λ r. ⌜ r ≡ asFault (pairsFault count nums) ⌝ }
 {
@@ -32,7 +33,7 @@ pub fn pairs_fault(count: usize, nums: [u32; 12]) -> Fault
 }
 
 // A fault in a field of the line, or else the whole line's where its numbers are too few or too many.
-pub fn or_count(f: Fault, wrong: bool) -> Fault
+fn or_count(f: Fault, wrong: bool) -> Fault
     ensures { λ r. ⌜ r ≡ orCount f wrong ⌝ }
 {
     match f {
@@ -47,7 +48,7 @@ pub fn or_count(f: Fault, wrong: bool) -> Fault
 }
 
 // The form of a record that has n numbers.
-pub fn counted(n: usize, count: usize) -> Fault
+fn counted(n: usize, count: usize) -> Fault
     ensures { λ r. ⌜ r ≡ asFault (countFault n count) ⌝ }
 {
     if count == n {
@@ -57,7 +58,7 @@ pub fn counted(n: usize, count: usize) -> Fault
 }
 
 // The form of an edge, or of a field of the query.
-pub fn labelled_fault(count: usize, nums: [u32; 12]) -> Fault
+fn labelled_fault(count: usize, nums: [u32; 12]) -> Fault
     requires { ⌜ length nums ≡ 12 ⌝ }
     ensures { λ r. ⌜ r ≡ asFault (labelledFault count nums) ⌝ }
 {
@@ -68,7 +69,7 @@ pub fn labelled_fault(count: usize, nums: [u32; 12]) -> Fault
 }
 
 // The form of a property.
-pub fn valued_fault(count: usize, nums: [u32; 12]) -> Fault
+fn valued_fault(count: usize, nums: [u32; 12]) -> Fault
     requires { ⌜ length nums ≡ 12 ⌝ }
     ensures { λ r. ⌜ r ≡ asFault (valuedFault count nums) ⌝ }
 {
@@ -83,93 +84,71 @@ pub fn valued_fault(count: usize, nums: [u32; 12]) -> Fault
 }
 
 // The form of a schema's record.
-pub fn schema_fault(l: u8, count: usize, nums: [u32; 12]) -> Fault
+fn schema_fault(letter: u8, count: usize, nums: [u32; 12]) -> Fault
     requires { ⌜ length nums ≡ 12 ⌝ }
-    ensures { λ r. ⌜ r ≡ asFault (schemaFault l count nums) ⌝ }
+    ensures { λ r. ⌜ r ≡ asFault (schemaFault letter count nums) ⌝ }
 {
-    if l == b'O' {
-        return counted(0, count);
+    match letter {
+        b'O' | b'I' | b'U' => counted(0, count),
+        b'A' | b'Q' => counted(1, count),
+        b'S' | b'H' | b'G' | b'M' => counted(2, count),
+        b'F' => {
+            if 1 < nums[1] {
+                return Fault::Field(3);
+            }
+            counted(2, count)
+        }
+        _ => Fault::Field(1),
     }
-    if l == b'I' {
-        return counted(0, count);
-    }
-    if l == b'U' {
-        return counted(0, count);
-    }
-    if l == b'A' {
-        return counted(1, count);
-    }
-    if l == b'Q' {
-        return counted(1, count);
-    }
-    if l == b'S' {
-        return counted(2, count);
-    }
-    if l == b'H' {
-        return counted(2, count);
-    }
-    if l == b'G' {
-        return counted(2, count);
-    }
-    if l == b'M' {
-        return counted(2, count);
-    }
-    if l != b'F' {
-        return Fault::Field(1);
-    }
-    if 1 < nums[1] {
-        return Fault::Field(3);
-    }
-    counted(2, count)
 }
 
 // The form of a graph's record.
-pub fn graph_fault(l: u8, count: usize, nums: [u32; 12]) -> Fault
+fn graph_fault(letter: u8, count: usize, nums: [u32; 12]) -> Fault
     requires { ⌜ length nums ≡ 12 ⌝ }
-    ensures { λ r. ⌜ r ≡ asFault (graphFault l count nums) ⌝ }
+    ensures { λ r. ⌜ r ≡ asFault (graphFault letter count nums) ⌝ }
 {
-    if l == b'N' {
+    if letter == b'N' {
         return counted(1, count);
     }
-    if l == b'E' {
+    if letter == b'E' {
         return labelled_fault(count, nums);
     }
-    if l == b'P' {
+    if letter == b'P' {
         return valued_fault(count, nums);
     }
     Fault::Field(1)
 }
 
 // The form of a query's record.
-pub fn query_fault(l: u8, count: usize, nums: [u32; 12]) -> Fault
+fn query_fault(letter: u8, count: usize, nums: [u32; 12]) -> Fault
     requires { ⌜ length nums ≡ 12 ⌝ }
-    ensures { λ r. ⌜ r ≡ asFault (queryFault l count nums) ⌝ }
+    ensures { λ r. ⌜ r ≡ asFault (queryFault letter count nums) ⌝ }
 {
-    if l == b'F' {
+    if letter == b'F' {
         return labelled_fault(count, nums);
     }
-    if l == b'T' {
+    if letter == b'T' {
         return counted(2, count);
     }
     Fault::Field(1)
 }
 
 // The form of a record of the text whose first check has this number.
-pub fn form_fault(which: u32, l: u8, count: usize, nums: [u32; 12]) -> Fault
+fn form_fault(which: u32, letter: u8, count: usize, nums: [u32; 12]) -> Fault
     requires { ⌜ length nums ≡ 12 ⌝ }
-    ensures { λ r. ⌜ r ≡ asFault (formFault which l count nums) ⌝ }
+    ensures { λ r. ⌜ r ≡ asFault (formFault which letter count nums) ⌝ }
 {
     if which == 10 {
-        return schema_fault(l, count, nums);
+        return schema_fault(letter, count, nums);
     }
     if which == 20 {
-        return graph_fault(l, count, nums);
+        return graph_fault(letter, count, nums);
     }
-    query_fault(l, count, nums)
+    query_fault(letter, count, nums)
 }
 
 // What the text form says of a line that was read.
-pub fn line_fault(which: u32, r: text::Row) -> Fault
+fn line_fault(which: u32, r: text::Row) -> Fault
     requires { ⌜ length (r .nums) ≡ 12 ⌝ }
     requires { ⌜ r .bad ≤ 100000 ⌝ }
     ensures { λ f. ⌜ f ≡ asFault (lineFault which r) ⌝ }

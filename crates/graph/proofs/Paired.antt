@@ -1,14 +1,13 @@
 -- Pairs read from numbers: one more pair, equal numbers give equal pairs, and what tells two lists of pairs apart. Assumes nothing.
 use Prim.Native.Nat.{ℕ, zero, suc, _+_, _*_, _-_, _≤_, _<_}
 use native.Mathlib.Omega.{arith}
-use mathlib.Core.Path.{_≡_, refl, ap, _∙_}
+use mathlib.Core.Path.{_≡_, refl, ap}
 use mathlib.Core.Bool.{Bool, true, false, _&&_}
 use mathlib.Core.List.{List, [], _∷_}
-use lib.ListN.{length, getD, drop, set}
-use lib.Seq.{drop-cons, getD-set-same, getD-set-other}
+use lib.ListN.{length, getD, drop}
+use lib.Seq.{drop-cons}
 use lib.Dec.{eqb}
 use borrow.Author.Tests.{eq-eqb, ne-eqb}
-use borrow.Author.Count.{below-more}
 use Rattle.rules.specs.Text.{Pair, pairs, argNo}
 use Rattle.rules.specs.Graph.{samePairs}
 
@@ -31,7 +30,8 @@ pairs-on nums n i h k l =
 
 -- ---- equal numbers
 
-pub pairs-agree : (n : ℕ) (xs ys : List ℕ) → 2 * n ≤ length xs → 2 * n ≤ length ys → ((k : ℕ) → k < 2 * n → getD xs k 0 ≡ getD ys k 0) → pairs n xs ≡ pairs n ys
+pub pairs-agree : (n : ℕ) (xs ys : List ℕ) → 2 * n ≤ length xs → 2 * n ≤ length ys
+    → ((k : ℕ) → k < 2 * n → getD xs k 0 ≡ getD ys k 0) → pairs n xs ≡ pairs n ys
 pairs-agree zero xs ys h k e = refl
 pairs-agree (suc n) [] ys h k e = absurd (omega arith)
 pairs-agree (suc n) (x ∷ []) ys h k e = absurd (omega arith)
@@ -61,7 +61,8 @@ pairs-differ (suc n) (x ∷ []) ys i l h k e = absurd (omega arith)
 pairs-differ (suc n) (x ∷ v ∷ xs) [] i l h k e = absurd (omega arith)
 pairs-differ (suc n) (x ∷ v ∷ xs) (y ∷ []) i l h k e = absurd (omega arith)
 pairs-differ (suc n) (x ∷ v ∷ xs) (y ∷ w ∷ ys) zero l h k e = rw (ne-eqb x y e)
-pairs-differ (suc n) (x ∷ v ∷ xs) (y ∷ w ∷ ys) (suc zero) l h k e = and-false (eqb x y) (eqb v w && samePairs (pairs n xs) (pairs n ys)) (rw (ne-eqb v w e))
+pairs-differ (suc n) (x ∷ v ∷ xs) (y ∷ w ∷ ys) (suc zero) l h k e =
+    and-false (eqb x y) (eqb v w && samePairs (pairs n xs) (pairs n ys)) (rw (ne-eqb v w e))
 pairs-differ (suc n) (x ∷ v ∷ xs) (y ∷ w ∷ ys) (suc (suc i)) l h k e =
     and-false (eqb x y) (eqb v w && samePairs (pairs n xs) (pairs n ys))
     (and-false (eqb v w) (samePairs (pairs n xs) (pairs n ys)) (pairs-differ n xs ys i (omega arith) (omega arith) (omega arith) e))
@@ -79,10 +80,3 @@ counts-differ (suc n) (suc m) (x ∷ v ∷ xs) (y ∷ []) d h k = absurd (omega 
 counts-differ (suc n) (suc m) (x ∷ v ∷ xs) (y ∷ w ∷ ys) d h k =
     and-false (eqb x y) (eqb v w && samePairs (pairs n xs) (pairs m ys))
     (and-false (eqb v w) (samePairs (pairs n xs) (pairs m ys)) (counts-differ n m xs ys (λ e. d (ap suc e)) (omega arith) (omega arith)))
-
--- ---- copying
-
--- What is stored at i joins what was copied before.
-pub copied-more : (f : ℕ → ℕ) (ps : List ℕ) (i v : ℕ) → ((k : ℕ) → k < i → getD ps k 0 ≡ f k) → i < length ps → v ≡ f i → (k : ℕ) → k < i + 1 → getD (set ps i v) k 0 ≡ f k
-copied-more f ps i v all h e =
-    below-more (λ k. getD (set ps i v) k 0 ≡ f k) i (λ k l. getD-set-other ps i k v 0 (λ q. omega arith) ∙ all k l) (getD-set-same ps i v 0 h ∙ e)

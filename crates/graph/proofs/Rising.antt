@@ -40,6 +40,9 @@ first-decides zero (some g) h k = absurd (omega arith)
 first-decides (suc f) (some zero) h k = refl
 first-decides (suc f) (some (suc g)) h k = let e : min f g ≡ f = omega arith in rw e
 
+pub earlier-decides : (f g : ℕ) (a : Option ℕ) → 1 ≤ f → f ≤ g → Behind g a → worse (some f) a ≡ some f
+earlier-decides f g a h l k = first-decides f a h (behind-later f g a l k)
+
 pub last-decides : (f : ℕ) (a : Option ℕ) → 1 ≤ f → Behind f a → worse a (some f) ≡ some f
 last-decides f none h k = refl
 last-decides zero (some g) h k = absurd (omega arith)

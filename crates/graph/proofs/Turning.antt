@@ -17,7 +17,7 @@ use Rattle.rules.specs.declared.FieldNo.{FieldNo}
 use Rattle.rules.specs.declared.TypeNo.{TypeNo}
 use Rattle.tables.specs.Read.{wideAt, valuesAt, schemaAt}
 use Rattle.graph.specs.Faults.{labelFor, undeclared, untaken, outside}
-use Rattle.graph.proofs.Rising.{Behind, behind-later, behind-each, first-decides, last-decides, fault-append}
+use Rattle.graph.proofs.Rising.{Behind, behind-later, behind-each, first-decides, earlier-decides, last-decides, fault-append}
 use Rattle.graph.proofs.Paired.{pair, pairs-on}
 
 -- ---- the pairs of a row
@@ -69,10 +69,11 @@ module _ (a nums : List ℕ) (i : ℕ) where
       → b ≡ declaredArg (schemaAt a) (argNo (getD nums (4 + 2 * i) 0)) → b ≡ false → Field (6 + 2 * i) ≡ asFault (undeclared a nums)
   unfolding DeclaredLeft
   declared-broken b k h w l e t =
+      let names = rest (stray a) 6 nums (i + 1) in
       let z : declaredArg (schemaAt a) (argNo (getD nums (4 + 2 * i) 0)) ≡ false = sym e ∙ t in
       let q : undeclared a nums ≡ some (6 + 2 * i) =
       k ∙ rest-on (stray a) 6 nums i h w l
-      ∙ rw z (first-decides (6 + 2 * i) (rest (stray a) 6 nums (i + 1)) (omega arith) (behind-later (6 + 2 * i) (6 + 2 * (i + 1)) (rest (stray a) 6 nums (i + 1)) (omega arith) (rest-behind (stray a) 6 nums (i + 1)))) in
+      ∙ rw z (earlier-decides (6 + 2 * i) (6 + 2 * (i + 1)) names (omega arith) (omega arith) (rest-behind (stray a) 6 nums (i + 1))) in
       rw q
 
   pub declared-on : (b : Bool) → DeclaredLeft a nums i → i < getD nums 3 0 → getD nums 3 0 ≤ 4 → length nums ≡ 12
@@ -119,40 +120,40 @@ module _ (a : List ℕ) (f : FieldNo) (nums : List ℕ) (i : ℕ) where
   unfolding TakenLeft
   taken-foreign b k h w l e t =
       let z : takesArg (schemaAt a) f (argNo (getD nums (4 + 2 * i) 0)) ≡ false = sym e ∙ t in
-      let first : worse (some (6 + 2 * i)) (rest (foreign a f) 6 nums (i + 1)) ≡ some (6 + 2 * i) =
-      first-decides (6 + 2 * i) (rest (foreign a f) 6 nums (i + 1)) (omega arith) (behind-later (6 + 2 * i) (7 + 2 * i) (rest (foreign a f) 6 nums (i + 1)) (omega arith) later) in
-      let second : worse (some (6 + 2 * i)) (rest (beyond a) 7 nums i) ≡ some (6 + 2 * i) =
-      first-decides (6 + 2 * i) (rest (beyond a) 7 nums i) (omega arith) (behind-later (6 + 2 * i) (7 + 2 * i) (rest (beyond a) 7 nums i) (omega arith) (rest-behind (beyond a) 7 nums i)) in
-      let q : untaken a f nums ≡ some (6 + 2 * i) = k ∙ rw (rest-on (foreign a f) 6 nums i h w l, z) (ap (λ o. worse o (rest (beyond a) 7 nums i)) first ∙ second) in
+      let names = rest (foreign a f) 6 nums (i + 1) in
+      let values = rest (beyond a) 7 nums i in
+      let first : worse (some (6 + 2 * i)) names ≡ some (6 + 2 * i) =
+      earlier-decides (6 + 2 * i) (7 + 2 * i) names (omega arith) (omega arith) later in
+      let second : worse (some (6 + 2 * i)) values ≡ some (6 + 2 * i) =
+      earlier-decides (6 + 2 * i) (7 + 2 * i) values (omega arith) (omega arith) (rest-behind (beyond a) 7 nums i) in
+      let q : untaken a f nums ≡ some (6 + 2 * i) =
+      k ∙ rw (rest-on (foreign a f) 6 nums i h w l, z) (ap (λ o. worse o values) first ∙ second) in
       rw q
 
   -- from here on the argument is the field's: t is the argument's type as the code found it
-  module _ (b d : Bool) (t : TypeNo) where
-    pub taken-beyond : TakenLeft a f nums i → i < getD nums 3 0 → getD nums 3 0 ≤ 4 → length nums ≡ 12
-        → b ≡ takesArg (schemaAt a) f (argNo (getD nums (4 + 2 * i) 0)) → b ≡ true
-        → t ≡ argType (schemaAt a) (argNo (getD nums (4 + 2 * i) 0)) → d ≡ inRange (schemaAt a) t (getD nums (5 + 2 * i) 0) → d ≡ false
-        → Field (7 + 2 * i) ≡ asFault (untaken a f nums)
-    taken-beyond k h w l e s o g r =
-        let z : takesArg (schemaAt a) f (argNo (getD nums (4 + 2 * i) 0)) ≡ true = sym e ∙ s in
-        let y : inRange (schemaAt a) (argType (schemaAt a) (argNo (getD nums (4 + 2 * i) 0))) (getD nums (5 + 2 * i) 0) ≡ false =
-        ap (λ x. inRange (schemaAt a) x (getD nums (5 + 2 * i) 0)) (sym o) ∙ (sym g ∙ r) in
+  module _ (b d : Bool) (t : TypeNo) (k : TakenLeft a f nums i) (h : i < getD nums 3 0) (w : getD nums 3 0 ≤ 4) (l : length nums ≡ 12)
+      (e : b ≡ takesArg (schemaAt a) f (argNo (getD nums (4 + 2 * i) 0))) (s : b ≡ true)
+      (o : t ≡ argType (schemaAt a) (argNo (getD nums (4 + 2 * i) 0))) (g : d ≡ inRange (schemaAt a) t (getD nums (5 + 2 * i) 0)) where
+    takes : takesArg (schemaAt a) f (argNo (getD nums (4 + 2 * i) 0)) ≡ true
+    takes = sym e ∙ s
+
+    within : inRange (schemaAt a) (argType (schemaAt a) (argNo (getD nums (4 + 2 * i) 0))) (getD nums (5 + 2 * i) 0) ≡ d
+    within = ap (λ x. inRange (schemaAt a) x (getD nums (5 + 2 * i) 0)) (sym o) ∙ sym g
+
+    pub taken-beyond : d ≡ false → Field (7 + 2 * i) ≡ asFault (untaken a f nums)
+    taken-beyond r =
+        let names = rest (foreign a f) 6 nums (i + 1) in
+        let values = rest (beyond a) 7 nums (i + 1) in
         let q : untaken a f nums ≡ some (7 + 2 * i) =
         taken-next k h w l
-        ∙ simp (z, y)
-        (ap (λ x. worse (rest (foreign a f) 6 nums (i + 1)) x) (first-decides (7 + 2 * i) (rest (beyond a) 7 nums (i + 1)) (omega arith) later-values)
-        ∙ last-decides (7 + 2 * i) (rest (foreign a f) 6 nums (i + 1)) (omega arith) later) in
+        ∙ simp (takes, within, r)
+        (ap (λ x. worse names x) (first-decides (7 + 2 * i) values (omega arith) later-values)
+        ∙ last-decides (7 + 2 * i) names (omega arith) later) in
         rw q
 
-    pub taken-on : TakenLeft a f nums i → i < getD nums 3 0 → getD nums 3 0 ≤ 4 → length nums ≡ 12
-        → b ≡ takesArg (schemaAt a) f (argNo (getD nums (4 + 2 * i) 0)) → b ≡ true
-        → t ≡ argType (schemaAt a) (argNo (getD nums (4 + 2 * i) 0)) → d ≡ inRange (schemaAt a) t (getD nums (5 + 2 * i) 0) → d ≡ true
-        → TakenLeft a f nums (i + 1)
+    pub taken-on : d ≡ true → TakenLeft a f nums (i + 1)
     unfolding TakenLeft
-    taken-on k h w l e s o g r =
-        let z : takesArg (schemaAt a) f (argNo (getD nums (4 + 2 * i) 0)) ≡ true = sym e ∙ s in
-        let y : inRange (schemaAt a) (argType (schemaAt a) (argNo (getD nums (4 + 2 * i) 0))) (getD nums (5 + 2 * i) 0) ≡ true =
-        ap (λ x. inRange (schemaAt a) x (getD nums (5 + 2 * i) 0)) (sym o) ∙ (sym g ∙ r) in
-        taken-next k h w l ∙ simp (z, y)
+    taken-on r = taken-next k h w l ∙ simp (takes, within, r)
 
   pub taken-ended : TakenLeft a f nums i → getD nums 3 0 ≤ i → Fine ≡ asFault (untaken a f nums)
   unfolding TakenLeft
@@ -178,7 +179,8 @@ values-all a t p v j from s n m e f g =
 module _ (a : List ℕ) (t : TypeNo) (v xs : List ℕ) (from start front all i : ℕ) where
   values-next : ValuesLeft a t v xs from start front all i → i < all → front ≤ i → start + (all - front) ≤ length v
       → outside a t from xs
-      ≡ worse (faultIf (not (inRange (schemaAt a) t (getD v (start + (i - front)) 0))) (from + (i - front))) (outside a t (from + (i + 1 - front)) (take (all - (i + 1)) (drop (start + (i + 1 - front)) v)))
+      ≡ worse (faultIf (not (inRange (schemaAt a) t (getD v (start + (i - front)) 0))) (from + (i - front)))
+      (outside a t (from + (i + 1 - front)) (take (all - (i + 1)) (drop (start + (i + 1 - front)) v)))
   unfolding ValuesLeft outside
   values-next k h o w =
       let z : all - i ≡ suc (all - (i + 1)) = omega arith in
@@ -192,12 +194,13 @@ module _ (a : List ℕ) (t : TypeNo) (v xs : List ℕ) (from start front all i :
   unfolding outside
   values-broken b k h o w u e r =
       let z : inRange (schemaAt a) t (getD v (start + (i - front)) 0) ≡ false = sym e ∙ r in
+      let next = from + (i + 1 - front) in
       let left : List ℕ = take (all - (i + 1)) (drop (start + (i + 1 - front)) v) in
       let q : outside a t from xs ≡ some (from + (i - front)) =
       values-next k h o w
       ∙ simp z
-      (first-decides (from + (i - front)) (outside a t (from + (i + 1 - front)) left) (omega arith)
-      (behind-later (from + (i - front)) (from + (i + 1 - front)) (outside a t (from + (i + 1 - front)) left) (omega arith) (behind-each (λ x. not (inRange (schemaAt a) t x)) 1 (from + (i + 1 - front)) left))) in
+      (earlier-decides (from + (i - front)) next (outside a t next left) (omega arith) (omega arith)
+      (behind-each (λ x. not (inRange (schemaAt a) t x)) 1 next left)) in
       rw q
 
   pub values-on : (b : Bool) → ValuesLeft a t v xs from start front all i → i < all → front ≤ i → start + (all - front) ≤ length v

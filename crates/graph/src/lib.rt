@@ -6,7 +6,7 @@ ghost use lib.ListN.{length, getD};
 ghost use lib.Dec.{eqb};
 ghost use Rattle.rules.specs.Search.{asFault};
 ghost use Rattle.rules.specs.Graph.{sameLabel};
-ghost use Rattle.tables.specs.Read.{cell, wideAt, labelAt, startsAt, valuesAt};
+ghost use Rattle.tables.specs.Read.{cell, wideAt, namedAt, startsAt, valuesAt};
 ghost use Rattle.schema.specs.Held.{SchemaHeld};
 ghost use Rattle.graph.specs.Held.{NodesHeld, PropertiesHeld};
 ghost use Rattle.graph.specs.Faults.{nodesAt, labelIs, labelFor, undeclared, untaken, outside, fault22, fault23, fault24E, fault24P, divertsAt, twinEdge, twinProperty};
@@ -41,13 +41,14 @@ pub fn type_of(g: &[u32], u: u32) -> TypeNo
     TypeNo(schema::narrow_at(g, 0, 8, u, 1))
 }
 
-// The label of row j of a wide table.
-pub fn label_at(a: &[u32], base: usize, j: usize) -> Named
+// The label of row j of a wide table, whose field stands in cell c: 3 of an edge or a property, 4 of an entry of a query.
+pub fn named_at(a: &[u32], base: usize, j: usize, c: usize) -> Named
     requires { ⌜ base + 14 * j + 14 ≤ length (now a) ⌝ }
     requires { ⌜ base ≤ 10000 ⌝ }
     requires { ⌜ j ≤ 1024 ⌝ }
+    requires { ⌜ c < 14 ⌝ }
     requires { ⌜ wideAt (now a) base j 5 ≤ 4 ⌝ }
-    ensures { λ r. ⌜ labelIs r ≡ labelAt (now (a .entry)) base j ⌝ }
+    ensures { λ r. ⌜ labelIs r ≡ namedAt (now (a .entry)) base j c ⌝ }
     ensures { λ r. ⌜ r .n ≤ 4 ⌝ }
 {
     let mut pairs = [0u32; 8];
@@ -57,14 +58,14 @@ pub fn label_at(a: &[u32], base: usize, j: usize) -> Named
         i += 1;
     }
     Named {
-        field: FieldNo(wide_at(a, base, j, 3)),
+        field: FieldNo(wide_at(a, base, j, c)),
         n: wide_at(a, base, j, 5),
         pairs,
     }
 }
 
 // The label of a row that was read.
-pub fn label_of(nums: [u32; 12]) -> Named
+fn label_of(nums: [u32; 12]) -> Named
     requires { ⌜ getD nums 3 0 ≤ 4 ⌝ }
     requires { ⌜ length nums ≡ 12 ⌝ }
     ensures { λ r. ⌜ labelIs r ≡ labelFor nums ⌝ }
@@ -111,7 +112,7 @@ pub fn same_label(x: Named, y: Named) -> bool
 }
 
 // Whether row j of a wide table is of node u and has a label.
-pub fn starts_at(a: &[u32], base: usize, u: u32, l: Named, j: usize) -> bool
+fn starts_at(a: &[u32], base: usize, u: u32, l: Named, j: usize) -> bool
     requires { ⌜ base + 14 * j + 14 ≤ length (now a) ⌝ }
     requires { ⌜ base ≤ 10000 ⌝ }
     requires { ⌜ j ≤ 1024 ⌝ }
@@ -121,7 +122,7 @@ pub fn starts_at(a: &[u32], base: usize, u: u32, l: Named, j: usize) -> bool
     ensures { λ r. ⌜ r ≡ startsAt (now (a .entry)) base u (labelIs l) j ⌝ }
 {
     if wide_at(a, base, j, 2) == u {
-        return same_label(label_at(a, base, j), l);
+        return same_label(named_at(a, base, j, 3), l);
     }
     false
 }
@@ -129,7 +130,7 @@ pub fn starts_at(a: &[u32], base: usize, u: u32, l: Named, j: usize) -> bool
 // ---- the checks of one row
 
 // The first argument number of a row that is not declared.
-pub fn args_declared(a: &[u32], nums: [u32; 12]) -> Fault
+fn args_declared(a: &[u32], nums: [u32; 12]) -> Fault
     requires { ⌜ SchemaHeld (now a) ⌝ }
     requires { ⌜ getD nums 3 0 ≤ 4 ⌝ }
     requires { ⌜ length nums ≡ 12 ⌝ }
@@ -189,7 +190,7 @@ pub fn check_22(a: &[u32], g: &[u32], l: u8, nums: [u32; 12]) -> Fault
 }
 
 // The first argument number of a row that is not the field's, or the first argument value out of its scalar's range.
-pub fn args_taken(a: &[u32], f: FieldNo, nums: [u32; 12]) -> Fault
+fn args_taken(a: &[u32], f: FieldNo, nums: [u32; 12]) -> Fault
     requires { ⌜ SchemaHeld (now a) ⌝ }
     requires { ⌜ getD nums 3 0 ≤ 4 ⌝ }
     requires { ⌜ length nums ≡ 12 ⌝ }
@@ -246,7 +247,7 @@ pub fn check_24_edge(a: &[u32], g: &[u32], nums: [u32; 12]) -> Fault
 }
 
 // The first of the values of property j that is out of the range of t, the first value standing in field `from`.
-pub fn values_fault(a: &[u32], p: &[u32], v: &[u32], j: usize, t: TypeNo, from: u32) -> Fault
+fn values_fault(a: &[u32], p: &[u32], v: &[u32], j: usize, t: TypeNo, from: u32) -> Fault
     requires { ⌜ SchemaHeld (now a) ⌝ }
     requires { ⌜ PropertiesHeld (now p) (now v) ⌝ }
     requires { ⌜ j < cell (now p) 0 ⌝ }

@@ -17,7 +17,7 @@ use checks::Verdict;
 use rules::TypeNo;
 
 // How many nodes are of a type.
-pub fn count_nodes(g: &[u32], t: TypeNo) -> u32
+fn count_nodes(g: &[u32], t: TypeNo) -> u32
     requires { ⌜ NodesHeld (now g) ⌝ }
     ensures { λ r. ⌜ r ≡ length (nodesOf (nodesAt (now (g .entry))) t) ⌝ }
 {
@@ -35,7 +35,7 @@ pub fn count_nodes(g: &[u32], t: TypeNo) -> u32
 }
 
 // Checks 22 to 27 of a graph that is laid out.
-pub fn judge_graph_rows(s: &[u8], a: &[u32], g: &[u32], p: &[u32], v: &[u32]) -> Verdict
+fn judge_graph_rows(s: &[u8], a: &[u32], g: &[u32], p: &[u32], v: &[u32]) -> Verdict
     requires { ⌜ length (now s) ≤ 65535 ⌝ }
     requires { ⌜ Each Plain (lines (now s)) ⌝ }
     requires { ⌜ GraphReady (rows (now s)) (areas (now a) (now g) (now p) (now v)) ⌝ }
@@ -76,16 +76,9 @@ pub fn judge_graph(s: &[u8], a: &[u32], g: &mut [u32], p: &mut [u32], v: &mut [u
     requires { ⌜ length (now v) ≤ 16384 ⌝ }
     ensures { λ r. ⌜ GraphJudged (schemaAt (now (a .entry))) (now (s .entry)) (length (now (g .entry))) (length (now (p .entry))) (length (now (v .entry))) (now (g .exit)) (now (p .exit)) (now (v .exit)) r ⌝ }
 {
-    if 65535 < s.len() {
-        return checks::refuse(20, checks::nowhere());
-    }
-    let b = form::first_broken(20, s);
-    if 0 < b.line {
-        return checks::refuse(20, b);
-    }
-    let c = search::first_offence(21, s, a, a, a, a);
-    if 0 < c.line {
-        return checks::refuse(21, c);
+    let b = checks::judge_form(20, s, a);
+    if b.number != 0 {
+        return b;
     }
     tables::lay_nodes(s, g);
     tables::lay_properties(s, p);

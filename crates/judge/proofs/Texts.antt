@@ -3,17 +3,15 @@ use Prim.Native.Nat.{ℕ, _≤_, _<_}
 use native.Mathlib.Omega.{arith}
 use mathlib.Core.Path.{_≡_, refl, sym, ap, _∙_, subst}
 use mathlib.Core.Bool.{Bool, true, false, _||_, or-false, true≢false}
-use mathlib.Core.List.{List, [], _∷_, _++_}
-use mathlib.Core.Option.{Option, none, some}
+use mathlib.Core.List.{List, _++_}
 use lib.Dec.{ltb}
-use lib.ListN.{length, take, drop}
+use lib.ListN.{length, take}
 use lib.Seq.{take-all, take-append-le, length-take-le}
 use borrow.Author.Tests.{le-ltb, lt-ltb, ltb-false}
 use Rattle.rules.specs.Text.{rows}
 use Rattle.rules.specs.Search.{spot, whole}
 use Rattle.rules.specs.Schema.{Schema, schemaOf}
-use Rattle.rules.specs.Answer.{Texts, Numbered, _by_, verdict, schemaIn, schemaChecks, graphChecks, queryChecks}
-use Rattle.rules.specs.declared.Spot.{Spot}
+use Rattle.rules.specs.Answer.{Texts, schemaIn, schemaChecks, graphChecks, queryChecks}
 use Rattle.rules.proofs.Clean.{Each, each-append}
 use Rattle.tables.specs.Layout.{schemaArea, nodeArea, propertyArea, valueArea, queryArea}
 use Rattle.tables.specs.Read.{schemaAt}
@@ -23,48 +21,12 @@ use Rattle.schema.specs.Held.{SchemaHeld}
 use Rattle.search.proofs.Calls.{schema-held}
 use Rattle.checks.specs.declared.Verdict.{Verdict}
 use Rattle.checks.specs.Verdict.{refusedBy, judged, textChecks, SchemaJudged}
-use Rattle.checks.proofs.Judging.{judged-at, judged-past}
+use Rattle.checks.proofs.Judging.{judged-at, judged-past, Positive, passed, front, behind}
+pub use Rattle.checks.proofs.Judging.{Passes}
 use Rattle.checks.proofs.Fitting.{schema-fits}
 use Rattle.graph_text.specs.GraphVerdict.{GraphJudged}
 use Rattle.query_text.specs.QueryVerdict.{QueryJudged}
-use Rattle.judge.specs.Texts.{texts, Lent, lent, workAreas, tooShortOf, Holding, Judged}
-
--- ---- the first check of two lists of checks
-
-abbrev pub Passes : Numbered → Type 0
-Passes c = c .place ≡ none
-
-abbrev Positive : Numbered → Type 0
-Positive c = 0 < c .number
-
--- number 0 says that every check is passed, for no check has the number 0
-passed : (cs : List Numbered) → Each Positive cs → judged cs .number ≡ 0 → Each Passes cs
-unfolding refusedBy
-passed [] p h = tt
-passed (c ∷ cs) p h = go (λ k. passed cs (p .1) k) (c .place) refl
-  where
-    go : (judged cs .number ≡ 0 → Each Passes cs) → (o : Option Spot) → c .place ≡ o → Each Passes (c ∷ cs)
-    go rest none e = (e, rest (ap (λ (v : Verdict). v .number) (sym (judged-past (c .number) (c .place) cs e)) ∙ h))
-    go rest (some s) e = absurd (omega (arith, p .0, ap (λ (v : Verdict). v .number) (sym (judged-at (c .number) (c .place) cs s e)) ∙ h))
-
--- a refusal by the first list decides
-front : (cs ds : List Numbered) → (judged cs .number ≡ 0 → ⊥) → judged (cs ++ ds) ≡ judged cs
-unfolding judged refusedBy
-front [] ds h = absurd (h refl)
-front (c ∷ cs) ds h = go (λ k. front cs ds k) (c .place) refl
-  where
-    go : ((judged cs .number ≡ 0 → ⊥) → judged (cs ++ ds) ≡ judged cs) → (o : Option Spot) → c .place ≡ o → judged (c ∷ (cs ++ ds)) ≡ judged (c ∷ cs)
-    go rest none e =
-        let past = judged-past (c .number) (c .place) cs e in
-        judged-past (c .number) (c .place) (cs ++ ds) e
-        ∙ rest (λ z. h (ap (λ (v : Verdict). v .number) past ∙ z))
-        ∙ sym past
-    go rest (some s) e = judged-at (c .number) (c .place) (cs ++ ds) s e ∙ sym (judged-at (c .number) (c .place) cs s e)
-
--- where the first list is passed, the second decides
-behind : (cs ds : List Numbered) → Each Passes cs → judged (cs ++ ds) ≡ judged ds
-behind [] ds h = refl
-behind (c ∷ cs) ds h = judged-past (c .number) (c .place) (cs ++ ds) (h .0) ∙ behind cs ds (h .1)
+use Rattle.judge.specs.Texts.{texts, Lent, lent, workAreas, tooShortOf, Judged}
 
 -- ---- the numbers of the checks
 
@@ -75,19 +37,49 @@ graph-numbers : (t : Schema) (s : List ℕ) → Each Positive (graphChecks t s)
 graph-numbers t s =
     (omega arith, (omega arith, (omega arith, (omega arith, (omega arith, (omega arith, (omega arith, (omega arith, tt))))))))
 
+query-numbers : (t : Schema) (s : List ℕ) → Each Positive (queryChecks t s)
+query-numbers t s = (omega arith, (omega arith, (omega arith, (omega arith, (omega arith, tt)))))
+
 -- ---- the areas
 
-pub enough : (w : Lent) → 9992 ≤ length (w .schema) → 15880 ≤ length (w .nodes) → 14344 ≤ length (w .properties) → 8200 ≤ length (w .values)
-    → 3592 ≤ length (w .query) → tooShortOf w ≡ false
+-- areas none of which is too short
+pub record Long (w : Lent) : Type 0 where
+  pub schema : 9992 ≤ length (w .schema)
+  pub nodes : 15880 ≤ length (w .nodes)
+  pub properties : 14344 ≤ length (w .properties)
+  pub values : 8200 ≤ length (w .values)
+  pub query : 3592 ≤ length (w .query)
+
+pub enough : (w : Lent) → Long w → tooShortOf w ≡ false
 unfolding tooShortOf workAreas
-enough w a g p v q =
+enough w long =
     rw (
-      le-ltb (length (w .schema)) 9992 a,
-      le-ltb (length (w .nodes)) 15880 g,
-      le-ltb (length (w .properties)) 14344 p,
-      le-ltb (length (w .values)) 8200 v,
-      le-ltb (length (w .query)) 3592 q,
+      le-ltb (length (w .schema)) 9992 (long .schema),
+      le-ltb (length (w .nodes)) 15880 (long .nodes),
+      le-ltb (length (w .properties)) 14344 (long .properties),
+      le-ltb (length (w .values)) 8200 (long .values),
+      le-ltb (length (w .query)) 3592 (long .query),
     )
+
+both : (a b : Bool) → (a || b) ≡ false → (a ≡ false) × (b ≡ false)
+both true b h = absurd (true≢false h)
+both false b h = (refl, h)
+
+pub long-areas : (w : Lent) → tooShortOf w ≡ false → Long w
+unfolding tooShortOf workAreas
+long-areas w h =
+    let a = both _ _ h in
+    let g = both _ _ (a .1) in
+    let p = both _ _ (g .1) in
+    let v = both _ _ (p .1) in
+    let q = both _ _ (v .1) in
+    record {
+      schema = ltb-false _ _ (a .0);
+      nodes = ltb-false _ _ (g .0);
+      properties = ltb-false _ _ (p .0);
+      values = ltb-false _ _ (v .0);
+      query = ltb-false _ _ (q .0);
+    }
 
 -- the first area that is too short
 module _ (w : Lent) where
@@ -130,6 +122,9 @@ module _ (w : Lent) where
 
 -- ---- the texts
 
+abbrev number : Verdict → ℕ
+number v = v .number
+
 module _ (s g q : List ℕ) (w : Lent) (long : tooShortOf w ≡ false) where
   abbrev x : Texts
   x = texts s g q
@@ -141,17 +136,17 @@ module _ (s g q : List ℕ) (w : Lent) (long : tooShortOf w ≡ false) where
   unfolding textChecks texts
   past-2 = judged-past 2 (whole (tooShortOf w)) _ (rw long)
 
-  module _ (n : ℕ) (a : List ℕ) (b : Verdict) (j : SchemaJudged s n a b) where
-    pub schema-refused : (after : Lent) → (b .number ≡ 0 → ⊥) → Judged x w after b
-    schema-refused after h =
+  module _ {n : ℕ} {a : List ℕ} {b : Verdict} (j : SchemaJudged s n a b) where
+    pub schema-refused : {after : Lent} → (b .number ≡ 0 → ⊥) → Judged x w after b
+    schema-refused h =
         record {
-          is = j .is ∙ sym (past-2 ∙ front (schemaChecks s) _ (λ z. h (ap (λ (v : Verdict). v .number) (j .is) ∙ z)));
+          is = j .is ∙ sym (past-2 ∙ front (schemaChecks s) _ (λ z. h (ap number (j .is) ∙ z)));
           held = λ z. absurd (h z);
         }
 
     module _ (room : 9992 ≤ n) (z : b .number ≡ 0) where
       passes : Each Passes (schemaChecks s)
-      passes = passed (schemaChecks s) (schema-numbers s) (ap (λ (v : Verdict). v .number) (sym (j .is)) ∙ z)
+      passes = passed (schemaChecks s) (schema-numbers s) (ap number (sym (j .is)) ∙ z)
 
       fits : SchemaFits (rows s)
       fits = schema-fits (rows s) (passes .1 .0)
@@ -164,37 +159,39 @@ module _ (s g q : List ℕ) (w : Lent) (long : tooShortOf w ≡ false) where
 
       past-schema : judged (textChecks (tooShortOf w) x) ≡ judged (graphChecks (schemaAt a) g ++ queryChecks (schemaAt a) q)
       past-schema =
-          past-2 ∙ behind (schemaChecks s) _ passes
+          past-2
+          ∙ behind (schemaChecks s) _ passes
           ∙ ap (λ (u : Schema). judged (graphChecks u g ++ queryChecks u q)) (sym same-schema)
 
-      module _ (k l m : ℕ) (ns ps vs : List ℕ) (c : Verdict) (i : GraphJudged (schemaAt a) g k l m ns ps vs c) where
-        pub graph-refused : (after : Lent) → (c .number ≡ 0 → ⊥) → Judged x w after c
-        graph-refused after h =
+      module _ {k l m : ℕ} {ns ps vs : List ℕ} {c : Verdict} (i : GraphJudged (schemaAt a) g k l m ns ps vs c) where
+        pub graph-refused : {after : Lent} → (c .number ≡ 0 → ⊥) → Judged x w after c
+        graph-refused h =
             record {
-              is = i .is ∙ sym (past-schema ∙ front (graphChecks (schemaAt a) g) _ (λ y. h (ap (λ (v : Verdict). v .number) (i .is) ∙ y)));
+              is = i .is ∙ sym (past-schema ∙ front (graphChecks (schemaAt a) g) _ (λ y. h (ap number (i .is) ∙ y)));
               held = λ y. absurd (h y);
             }
 
         module _ (y : c .number ≡ 0) where
           passes-graph : Each Passes (graphChecks (schemaAt a) g)
           passes-graph =
-              passed (graphChecks (schemaAt a) g) (graph-numbers (schemaAt a) g) (ap (λ (v : Verdict). v .number) (sym (i .is)) ∙ y)
+              passed (graphChecks (schemaAt a) g) (graph-numbers (schemaAt a) g) (ap number (sym (i .is)) ∙ y)
 
           past-graph : judged (textChecks (tooShortOf w) x) ≡ judged (queryChecks (schemaAt a) q)
           past-graph = past-schema ∙ behind (graphChecks (schemaAt a) g) _ passes-graph
 
-          pub all-accepted : (h o : ℕ) (qs : List ℕ) (r : Verdict) → QueryJudged (schemaAt a) q h qs r → n ≡ length (w .schema)
-              → k ≡ length (w .nodes) → l ≡ length (w .properties) → m ≡ 8200 → h ≡ length (w .query) → Judged x w (lent a ns ps vs qs) r
+          pub all-accepted : {h : ℕ} {qs : List ℕ} {r : Verdict} → QueryJudged (schemaAt a) q h qs r → n ≡ length (w .schema)
+              → k ≡ length (w .nodes) → l ≡ length (w .properties) → m ≡ 8200 → h ≡ length (w .query)
+              → Judged x w (lent a ns ps vs qs) r
           unfolding lent texts
-          all-accepted h o qs r u en ek el em eh =
+          all-accepted u en ek el em eh =
+              let needed = take-all 8200 vs (omega (arith, i .long .2, em)) in
               record {
                 is = u .is ∙ sym past-graph;
                 held = λ f. record {
                   schema = j .held z ∙ ap (λ (d : ℕ). schemaArea d (rows s)) en;
                   nodes = i .held y .0 ∙ ap (λ (d : ℕ). nodeArea d (rows g)) ek;
                   properties = i .held y .1 ∙ ap (λ (d : ℕ). propertyArea d (rows g)) el;
-                  values =
-                      take-all 8200 vs (omega (arith, i .long .2, em)) ∙ i .held y .2 ∙ ap (λ (d : ℕ). valueArea d (rows g)) em;
+                  values = needed ∙ i .held y .2 ∙ ap (λ (d : ℕ). valueArea d (rows g)) em;
                   query = u .held f ∙ ap (λ (d : ℕ). queryArea d (rows q)) eh;
                 };
               }
@@ -210,37 +207,9 @@ module _ (s g q : List ℕ) (w : Lent) where
         held = λ z. absurd (omega (arith, ap (λ (u : Verdict). u .number) e));
       }
 
-both : (a b : Bool) → (a || b) ≡ false → (a ≡ false) × (b ≡ false)
-both true b h = absurd (true≢false h)
-both false b h = (refl, h)
-
--- areas none of which is too short
-pub record Long (w : Lent) : Type 0 where
-  pub schema : 9992 ≤ length (w .schema)
-  pub nodes : 15880 ≤ length (w .nodes)
-  pub properties : 14344 ≤ length (w .properties)
-  pub values : 8200 ≤ length (w .values)
-  pub query : 3592 ≤ length (w .query)
-
-pub long-areas : (w : Lent) → tooShortOf w ≡ false → Long w
-unfolding tooShortOf workAreas
-long-areas w h =
-    let a = both _ _ h in
-    let g = both _ _ (a .1) in
-    let p = both _ _ (g .1) in
-    let v = both _ _ (p .1) in
-    let q = both _ _ (v .1) in
-    record {
-      schema = ltb-false _ _ (a .0);
-      nodes = ltb-false _ _ (g .0);
-      properties = ltb-false _ _ (p .0);
-      values = ltb-false _ _ (v .0);
-      query = ltb-false _ _ (q .0);
-    }
-
 -- of the values' area the needed part is lent, and stands at the front afterwards
-pub widened : (s g q a ns ps vs qs b ms os u us rest : List ℕ) (r : Verdict) → tooShortOf (lent a ns ps vs qs) ≡ false → length u ≡ 8200
-    → Judged (texts s g q) (lent a ns ps (take 8200 vs) qs) (lent b ms os u us) r
+pub widened : (s g q a ns ps vs qs b ms os u us rest : List ℕ) (r : Verdict) → tooShortOf (lent a ns ps vs qs) ≡ false
+    → length u ≡ 8200 → Judged (texts s g q) (lent a ns ps (take 8200 vs) qs) (lent b ms os u us) r
     → Judged (texts s g q) (lent a ns ps vs qs) (lent b ms os (u ++ rest) us) r
 unfolding lent texts
 widened s g q a ns ps vs qs b ms os u us rest r h l j =
@@ -248,7 +217,14 @@ widened s g q a ns ps vs qs b ms os u us rest r h l j =
     let long : Long w = long-areas w h in
     let part : length (take 8200 vs) ≡ 8200 = length-take-le 8200 vs (long .values) in
     let narrow : tooShortOf (lent a ns ps (take 8200 vs) qs) ≡ false =
-    enough (lent a ns ps (take 8200 vs) qs) (long .schema) (long .nodes) (long .properties) (omega arith) (long .query) in
+    enough (lent a ns ps (take 8200 vs) qs)
+    (record {
+      schema = long .schema;
+      nodes = long .nodes;
+      properties = long .properties;
+      values = omega arith;
+      query = long .query;
+    }) in
     record {
       is = j .is ∙ ap (λ (d : Bool). judged (textChecks d (texts s g q))) (narrow ∙ sym h);
       held = λ z.
@@ -262,18 +238,15 @@ widened s g q a ns ps vs qs b ms os u us rest r h l j =
           };
     }
 
-query-numbers : (t : Schema) (s : List ℕ) → Each Positive (queryChecks t s)
-query-numbers t s = (omega arith, (omega arith, (omega arith, (omega arith, (omega arith, tt)))))
-
 -- an accepted verdict passes every check
 pub accepted-passes : (x : Texts) (before after : Lent) (v : Verdict) → Judged x before after v → v .number ≡ 0
     → Each Passes (textChecks (tooShortOf before) x)
 unfolding textChecks
 accepted-passes x before after v j z =
-    passed (textChecks (tooShortOf before) x) (
-      omega arith,
-      each-append Positive (schemaChecks (x .schema)) (graphChecks (schemaIn x) (x .graph) ++ queryChecks (schemaIn x) (x .query)) (schema-numbers (x .schema))
-          (each-append Positive (graphChecks (schemaIn x) (x .graph)) (queryChecks (schemaIn x) (x .query)) (graph-numbers (schemaIn x) (x .graph))
-          (query-numbers (schemaIn x) (x .query))),
-    )
-    (ap (λ (u : Verdict). u .number) (sym (j .is)) ∙ z)
+    let t = schemaIn x in
+    let graphs = graphChecks t (x .graph) in
+    let queries = queryChecks t (x .query) in
+    let later = each-append Positive graphs queries (graph-numbers t (x .graph)) (query-numbers t (x .query)) in
+    passed (textChecks (tooShortOf before) x)
+    (omega arith, each-append Positive (schemaChecks (x .schema)) (graphs ++ queries) (schema-numbers (x .schema)) later)
+    (ap number (sym (j .is)) ∙ z)

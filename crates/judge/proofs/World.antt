@@ -1,6 +1,6 @@
 -- The World read from the tables is the World of the texts: after an accepted verdict nothing of bytes is needed. Assumes nothing.
-use Prim.Native.Nat.{ℕ, _≤_}
-use mathlib.Core.Path.{_≡_, refl, sym, ap, _∙_}
+use Prim.Native.Nat.{ℕ}
+use mathlib.Core.Path.{_≡_, refl, ap, _∙_}
 use mathlib.Core.Bool.{Bool, true, false}
 use mathlib.Core.List.{List}
 use mathlib.Core.Option.{none}
@@ -10,10 +10,9 @@ use Rattle.rules.specs.Text.{rows}
 use Rattle.rules.specs.Search.{whole}
 use Rattle.rules.specs.Schema.{Schema}
 use Rattle.rules.specs.Graph.{Graph}
-use Rattle.rules.specs.World.{World, world}
+use Rattle.rules.specs.World.{world}
 use Rattle.rules.specs.Answer.{Texts, schemaIn, graphIn, worldOf}
 use Rattle.rules.proofs.Bools.{some-none}
-use Rattle.rules.proofs.Clean.{Each}
 use Rattle.tables.specs.Layout.{nodeArea, propertyArea}
 use Rattle.tables.specs.Read.{schemaAt, graphAt}
 use Rattle.tables.proofs.Views.{schema-view}
@@ -22,7 +21,7 @@ use Rattle.checks.specs.declared.Verdict.{Verdict}
 use Rattle.checks.specs.Verdict.{textChecks}
 use Rattle.checks.proofs.Fitting.{schema-fits, graph-fits}
 use Rattle.judge.specs.Texts.{Lent, tooShortOf, Judged}
-use Rattle.judge.proofs.Texts.{Passes, Long, long-areas, accepted-passes}
+use Rattle.judge.proofs.Texts.{Long, long-areas, accepted-passes}
 
 not-offended : (b : Bool) → whole b ≡ none → b ≡ false
 not-offended true h = absurd (some-none h)

@@ -1,4 +1,4 @@
--- What stands where in an entry of a query area, and the loop over an entry's arguments. Assumes nothing.
+-- What stands where in an entry of a query area, and the first of some tests that fails. Assumes nothing.
 use Prim.Native.Nat.{ℕ, zero, suc, _+_, _*_, _≤_, _<_, min}
 use mathlib.Core.Path.{_≡_, refl, ap, _∙_}
 use mathlib.Core.List.{List, [], _∷_}
@@ -8,7 +8,7 @@ use native.Mathlib.Omega.{arith}
 use lib.ListN.{length, getD, drop, length-take, length-drop}
 use lib.Seq.{getD-take, getD-drop}
 use Rattle.rules.specs.Text.{at}
-use Rattle.rules.specs.Search.{testEach, faultOf, faultIf, worse, earlier}
+use Rattle.rules.specs.Search.{testEach, faultOf, faultIf, worse}
 use Rattle.tables.specs.Read.{cell, wideAt, numbersAt}
 use Rattle.query.specs.Entries.{QueryHeld, entryAt}
 
@@ -70,17 +70,24 @@ keeps (suc f) (some zero) h k = absurd (omega arith)
 keeps (suc f) (some (suc g)) h k = let e : min f g ≡ f = omega arith in ap (λ (n : ℕ). some (suc n)) e
 
 module _ {A : Type 0} (bad : A → Bool) where
-  pub each-from : (f : ℕ) (xs : List A) → 1 ≤ f → From f (faultOf (testEach bad 2 f xs))
+  abbrev tested : ℕ → List A → Option ℕ
+  tested f xs = faultOf (testEach bad 2 f xs)
+
+  pub each-from : (f : ℕ) (xs : List A) → 1 ≤ f → From f (tested f xs)
   each-from f [] h = tt
   each-from f (x ∷ xs) h = go (bad x) (each-from (2 + f) xs (omega arith))
     where
-      go : (b : Bool) → From (2 + f) (faultOf (testEach bad 2 (2 + f) xs)) → From f (worse (faultIf b f) (faultOf (testEach bad 2 (2 + f) xs)))
-      go true r = rw (keeps f (faultOf (testEach bad 2 (2 + f) xs)) h (from-less f (2 + f) (faultOf (testEach bad 2 (2 + f) xs)) (omega arith) r)) (omega arith)
-      go false r = from-less f (2 + f) (faultOf (testEach bad 2 (2 + f) xs)) (omega arith) r
+      go : (b : Bool) → From (2 + f) (tested (2 + f) xs) → From f (worse (faultIf b f) (tested (2 + f) xs))
+      go true r =
+          let late = from-less f (2 + f) (tested (2 + f) xs) (omega arith) r in
+          rw (keeps f (tested (2 + f) xs) h late) (omega arith)
+      go false r = from-less f (2 + f) (tested (2 + f) xs) (omega arith) r
 
   -- the first that is bad decides; one that is not says nothing
-  pub each-stop : (f : ℕ) (x : A) (xs : List A) → 1 ≤ f → bad x ≡ true → faultOf (testEach bad 2 f (x ∷ xs)) ≡ some f
-  each-stop f x xs h e = rw e (keeps f (faultOf (testEach bad 2 (2 + f) xs)) h (from-less f (2 + f) (faultOf (testEach bad 2 (2 + f) xs)) (omega arith) (each-from (2 + f) xs (omega arith))))
+  pub each-stop : (f : ℕ) (x : A) (xs : List A) → 1 ≤ f → bad x ≡ true → tested f (x ∷ xs) ≡ some f
+  each-stop f x xs h e =
+      let late = from-less f (2 + f) (tested (2 + f) xs) (omega arith) (each-from (2 + f) xs (omega arith)) in
+      rw e (keeps f (tested (2 + f) xs) h late)
 
-  pub each-on : (f : ℕ) (x : A) (xs : List A) → bad x ≡ false → faultOf (testEach bad 2 f (x ∷ xs)) ≡ faultOf (testEach bad 2 (2 + f) xs)
+  pub each-on : (f : ℕ) (x : A) (xs : List A) → bad x ≡ false → tested f (x ∷ xs) ≡ tested (2 + f) xs
   each-on f x xs e = rw e

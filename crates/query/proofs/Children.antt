@@ -32,10 +32,12 @@ unfolding behind
 behind-from q j = rw (add-one j)
 
 -- the definitions, by tests
-child-cond : (r n : Row) (rest : List Row) → hasChild r (n ∷ rest) ≡ cond (leb (at n 0) (at r 0)) false (eqb (at n 0) (suc (at r 0)) || hasChild r rest)
+child-cond : (r n : Row) (rest : List Row)
+    → hasChild r (n ∷ rest) ≡ cond (leb (at n 0) (at r 0)) false (eqb (at n 0) (suc (at r 0)) || hasChild r rest)
 child-cond r n rest = elim-cond (leb (at n 0) (at r 0)) false (eqb (at n 0) (suc (at r 0)) || hasChild r rest)
 
-hand-cond : (s : Schema) (c : TypeNo) (e : Row) → handsDown s c e ≡ cond (eqb (e .letter) 70) (fieldType s c (asked e)) (condition e)
+hand-cond : (s : Schema) (c : TypeNo) (e : Row)
+    → handsDown s c e ≡ cond (eqb (e .letter) 70) (fieldType s c (asked e)) (condition e)
 hand-cond s c e = elim-cond (eqb (e .letter) 70) (fieldType s c (asked e)) (condition e)
 
 -- ---- the loop that looks for a child: what the entries from j on say
@@ -63,23 +65,27 @@ module _ (q : List ℕ) (k : ℕ) where
       pub child-past : e ≤ d → false ≡ total
       child-past h = sym (child-turn ∙ rw (le-leb e d h))
 
-      pub child-found : d < e → e ≡ d + 1 → true ≡ total
+      pub child-found : d < e → e ≤ d + 1 → true ≡ total
       child-found h f = let g : e ≡ suc d = omega arith in sym (child-turn ∙ rw (lt-leb e d h, eq-eqb e (suc d) g))
 
       pub child-on : d < e → (e ≡ d + 1 → ⊥) → total ≡ childFrom (j + 1)
       unfolding childFrom
       child-on h n = child-turn ∙ rw (lt-leb e d h, ne-eqb e (suc d) (λ g. n (omega arith)), behind-from q j)
 
-pub ruleset child-laws = (child-start, child-none, child-past, child-found, child-on)
+pub ruleset child-laws = (child-start, child-none, child-past, child-on)
 
 -- ---- the context handed down
 
 module _ (a q : List ℕ) (k : ℕ) (c : TypeNo) where
-  pub hand-field : (l f : ℕ) (r : TypeNo) → l ≡ wideAt q 8 k 0 → l ≡ 70 → f ≡ wideAt q 8 k 4 → r ≡ fieldType (schemaAt a) c (fieldNo f) → r ≡ handsDown (schemaAt a) c (entryAt q k)
-  hand-field l f r el e ef er = er ∙ sym (hand-cond (schemaAt a) c (entryAt q k) ∙ rw (letter-at q k, ← el, e, third-at q k, ← ef))
+  pub hand-field : (l f : ℕ) (r : TypeNo) → l ≡ wideAt q 8 k 0 → l ≡ 70 → f ≡ wideAt q 8 k 4
+      → r ≡ fieldType (schemaAt a) c (fieldNo f) → r ≡ handsDown (schemaAt a) c (entryAt q k)
+  hand-field l f r el e ef er =
+      er ∙ sym (hand-cond (schemaAt a) c (entryAt q k) ∙ rw (letter-at q k, ← el, e, third-at q k, ← ef))
 
-  pub hand-type : (l x : ℕ) → l ≡ wideAt q 8 k 0 → (l ≡ 70 → ⊥) → x ≡ wideAt q 8 k 3 → typeNo x ≡ handsDown (schemaAt a) c (entryAt q k)
-  hand-type l x el n ex = sym (hand-cond (schemaAt a) c (entryAt q k) ∙ rw (letter-at q k, ← el, ne-eqb l 70 n, second-at q k, ← ex))
+  pub hand-type : (l x : ℕ) → l ≡ wideAt q 8 k 0 → (l ≡ 70 → ⊥) → x ≡ wideAt q 8 k 3
+      → typeNo x ≡ handsDown (schemaAt a) c (entryAt q k)
+  hand-type l x el n ex =
+      sym (hand-cond (schemaAt a) c (entryAt q k) ∙ rw (letter-at q k, ← el, ne-eqb l 70 n, second-at q k, ← ex))
 
 pub ruleset hand-laws = (hand-field, hand-type)
 
@@ -97,11 +103,13 @@ module _ (q : List ℕ) (k d e : ℕ) (ee : e ≡ wideAt q 8 k 2) where
   deep h = rw (depth-at q k, ← ee, lt-ltb d e h) (deep-any (is T (entryAt q k)) (hasChild (entryAt q k) (behind q k)))
 
   module _ (s : e ≤ d) (l : ℕ) (el : l ≡ wideAt q 8 k 0) where
-    pub childless : (b : Bool) → l ≡ 84 → b ≡ hasChild (entryAt q k) (behind q k) → b ≡ false → Field 0 ≡ asFault (fault32 q k d)
+    pub childless : (b : Bool) → l ≡ 84 → b ≡ hasChild (entryAt q k) (behind q k) → b ≡ false
+        → Field 0 ≡ asFault (fault32 q k d)
     unfolding fault32
     childless b f g h = rw (depth-at q k, ← ee, le-ltb d e s, letter-at q k, ← el, f, ← g, h)
 
-    pub with-child : (b : Bool) → l ≡ 84 → b ≡ hasChild (entryAt q k) (behind q k) → b ≡ true → Fine ≡ asFault (fault32 q k d)
+    pub with-child : (b : Bool) → l ≡ 84 → b ≡ hasChild (entryAt q k) (behind q k) → b ≡ true
+        → Fine ≡ asFault (fault32 q k d)
     unfolding fault32
     with-child b f g h = rw (depth-at q k, ← ee, le-ltb d e s, letter-at q k, ← el, f, ← g, h)
 

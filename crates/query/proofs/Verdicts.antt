@@ -16,9 +16,9 @@ use Rattle.rules.specs.declared.Fault.{Fault}
 use Rattle.rules.specs.declared.Fault.the-variants.{Fine, Field}
 use Rattle.tables.specs.Read.{wideAt, schemaAt}
 use Rattle.query.specs.Entries.{entryAt, behind}
-use Rattle.query.specs.Faults.{fault32, fault33, fault34, faultFor, undeclared, untaken}
+use Rattle.query.specs.Faults.{fault32, fault33, fault34, faultFor, argPasses, argsFault}
 use Rattle.query.proofs.Cells.{letter-at, second-at, third-at, From, from-less, keeps}
-use Rattle.query.proofs.Arguments.{undeclared-late, untaken-late}
+use Rattle.query.proofs.Arguments.{fault-late}
 
 worse-none : (x : Option ℕ) → worse x none ≡ x
 worse-none none = refl
@@ -45,11 +45,17 @@ unfolding form33
 args-any t x = worse-none x
 
 module _ (a q : List ℕ) (k : ℕ) where
-  row33 : fault33 a q k ≡ form33 (entryAt q k .letter) (ltb 255 (at (entryAt q k) 1)) (declaredField (schemaAt a) (fieldNo (at (entryAt q k) 2))) (undeclared a q k) (declaredType (schemaAt a) (typeNo (at (entryAt q k) 1)))
-  unfolding fault33 form33 undeclared
+  -- of the entry with the letter l, whose second and third numbers are x and y
+  abbrev said33 : (l x y : ℕ) → Option ℕ
+  said33 l x y =
+      let s = schemaAt a in
+      form33 l (ltb 255 x) (declaredField s (fieldNo y)) (argsFault 33 a q k (fieldNo y)) (declaredType s (typeNo x))
+
+  row33 : fault33 a q k ≡ said33 (entryAt q k .letter) (at (entryAt q k) 1) (at (entryAt q k) 2)
+  unfolding fault33 form33 argsFault argPasses
   row33 = refl
 
-  is33 : fault33 a q k ≡ form33 (wideAt q 8 k 0) (ltb 255 (wideAt q 8 k 3)) (declaredField (schemaAt a) (fieldNo (wideAt q 8 k 4))) (undeclared a q k) (declaredType (schemaAt a) (typeNo (wideAt q 8 k 3)))
+  is33 : fault33 a q k ≡ said33 (wideAt q 8 k 0) (wideAt q 8 k 3) (wideAt q 8 k 4)
   is33 = row33 ∙ rw (letter-at q k, second-at q k, third-at q k)
 
   module _ (l : ℕ) (el : l ≡ wideAt q 8 k 0) where
@@ -58,26 +64,33 @@ module _ (a q : List ℕ) (k : ℕ) where
     no-check33 n m = sym (ap asFault is33 ∙ rw (← el, ne-eqb l 84 n, ne-eqb l 70 m))
 
     module _ (x : ℕ) (ex : x ≡ wideAt q 8 k 3) where
-      pub type-known : (b : Bool) → l ≡ 84 → b ≡ declaredType (schemaAt a) (typeNo x) → b ≡ true → Fine ≡ asFault (fault33 a q k)
+      pub type-known : (b : Bool) → l ≡ 84 → b ≡ declaredType (schemaAt a) (typeNo x) → b ≡ true
+          → Fine ≡ asFault (fault33 a q k)
       unfolding form33
       type-known b e f t = sym (ap asFault is33 ∙ rw (← el, e, ← ex, ← f, t))
 
-      pub type-unknown : (b : Bool) → l ≡ 84 → b ≡ declaredType (schemaAt a) (typeNo x) → b ≡ false → Field 3 ≡ asFault (fault33 a q k)
+      pub type-unknown : (b : Bool) → l ≡ 84 → b ≡ declaredType (schemaAt a) (typeNo x) → b ≡ false
+          → Field 3 ≡ asFault (fault33 a q k)
       unfolding form33
       type-unknown b e f t = sym (ap asFault is33 ∙ rw (← el, e, ← ex, ← f, t))
 
       pub label-large : l ≡ 70 → 255 < x → Field 3 ≡ asFault (fault33 a q k)
       label-large e h =
-          sym (ap asFault is33 ∙ rw (← el, e, ← ex, lt-ltb 255 x h) (ap asFault (large-any _ _ (undeclared a q k) (undeclared-late a q k))))
+          let f = fieldNo (wideAt q 8 k 4) in
+          let decides = large-any _ _ (argsFault 33 a q k f) (fault-late 33 a q k f) in
+          sym (ap asFault is33 ∙ rw (← el, e, ← ex, lt-ltb 255 x h) (ap asFault decides))
 
       module _ (y : ℕ) (ey : y ≡ wideAt q 8 k 4) (b : Bool) (f : b ≡ declaredField (schemaAt a) (fieldNo y)) where
         pub field-unknown : l ≡ 70 → x ≤ 255 → b ≡ false → Field 4 ≡ asFault (fault33 a q k)
         field-unknown e h t =
-            sym (ap asFault is33 ∙ rw (← el, e, ← ex, le-ltb 255 x h, ← ey, ← f, t) (ap asFault (unknown-any _ (undeclared a q k) (undeclared-late a q k))))
+            let decides = unknown-any _ (argsFault 33 a q k (fieldNo y)) (fault-late 33 a q k (fieldNo y)) in
+            sym (ap asFault is33 ∙ rw (← el, e, ← ex, le-ltb 255 x h, ← ey, ← f, t) (ap asFault decides))
 
-        pub field-known : (r : Fault) → l ≡ 70 → x ≤ 255 → b ≡ true → r ≡ asFault (undeclared a q k) → r ≡ asFault (fault33 a q k)
+        pub field-known : (r : Fault) → l ≡ 70 → x ≤ 255 → b ≡ true → r ≡ asFault (argsFault 33 a q k (fieldNo y))
+            → r ≡ asFault (fault33 a q k)
         field-known r e h t g =
-            g ∙ sym (ap asFault is33 ∙ rw (← el, e, ← ex, le-ltb 255 x h, ← ey, ← f, t) (ap asFault (args-any _ (undeclared a q k))))
+            let decide = args-any _ (argsFault 33 a q k (fieldNo y)) in
+            g ∙ sym (ap asFault is33 ∙ rw (← el, e, ← ex, le-ltb 255 x h, ← ey, ← f, t) (ap asFault decide))
 
 pub ruleset laws33 = (not-true, not-false, no-check33, type-known, type-unknown, label-large, field-unknown, field-known)
 
@@ -86,7 +99,8 @@ pub ruleset laws33 = (not-true, not-false, no-check33, type-known, type-unknown,
 
 unfoldable form34 : ℕ → Bool → Bool → Bool → Bool → Option ℕ → Bool → Option ℕ
 form34 l o h leaf child args s =
-    worse (elim (eqb l 70) [ true ↦ worse (faultIf (not (o && h)) 4) (worse (faultIf (leaf && child) 0) (worse (faultIf (not leaf && not child) 0) args)) | false ↦ none ])
+    let below = worse (faultIf (leaf && child) 0) (worse (faultIf (not leaf && not child) 0) args) in
+    worse (elim (eqb l 70) [ true ↦ worse (faultIf (not (o && h)) 4) below | false ↦ none ])
     (worse (elim (eqb l 84) [ true ↦ worse (faultIf s 3) none | false ↦ none ]) none)
 
 -- field 4 decides over field 0 and over the arguments
@@ -95,9 +109,11 @@ four-zero false x h = h
 four-zero true none h = refl
 four-zero true (some g) h = h
 
-four-any : (leaf child : Bool) (x : Option ℕ) → From 6 x → worse (worse (some 4) (worse (faultIf (leaf && child) 0) (worse (faultIf (not leaf && not child) 0) x))) none ≡ some 4
+four-any : (leaf child : Bool) (x : Option ℕ) → From 6 x
+    → worse (worse (some 4) (worse (faultIf (leaf && child) 0) (worse (faultIf (not leaf && not child) 0) x))) none ≡ some 4
 four-any leaf child x h =
-    worse-none _ ∙ four-zero (leaf && child) _ (four-zero (not leaf && not child) x (keeps 4 x (omega arith) (from-less 4 6 x (omega arith) h)))
+    let late = keeps 4 x (omega arith) (from-less 4 6 x (omega arith) h) in
+    worse-none _ ∙ four-zero (leaf && child) _ (four-zero (not leaf && not child) x late)
 
 unowned : (h leaf child s : Bool) (x : Option ℕ) → From 6 x → form34 70 false h leaf child x s ≡ some 4
 unfolding form34
@@ -124,11 +140,20 @@ as-none none v e f = refl
 as-none (some n) v e f = let z : _≡_ {A = ℕ} 0 1 = cc in absurd (omega arith)
 
 module _ (a q : List ℕ) (k : ℕ) (c : TypeNo) where
-  row34 : fault34 a q k c ≡ form34 (entryAt q k .letter) (ownsFields (schemaAt a) c) (hasField (schemaAt a) c (fieldNo (at (entryAt q k) 2))) (isScalar (schemaAt a) (fieldType (schemaAt a) c (fieldNo (at (entryAt q k) 2)))) (hasChild (entryAt q k) (behind q k)) (untaken a q k (fieldNo (at (entryAt q k) 2))) (isScalar (schemaAt a) (typeNo (at (entryAt q k) 1)))
-  unfolding fault34 form34 untaken
+  -- of the entry with the letter l, whose second and third numbers are x and y
+  abbrev said34 : (l x y : ℕ) → Option ℕ
+  said34 l x y =
+      let s = schemaAt a in
+      let f = fieldNo y in
+      form34 l (ownsFields s c) (hasField s c f) (isScalar s (fieldType s c f)) (hasChild (entryAt q k) (behind q k))
+      (argsFault 34 a q k f)
+      (isScalar s (typeNo x))
+
+  row34 : fault34 a q k c ≡ said34 (entryAt q k .letter) (at (entryAt q k) 1) (at (entryAt q k) 2)
+  unfolding fault34 form34 argsFault argPasses
   row34 = refl
 
-  is34 : fault34 a q k c ≡ form34 (wideAt q 8 k 0) (ownsFields (schemaAt a) c) (hasField (schemaAt a) c (fieldNo (wideAt q 8 k 4))) (isScalar (schemaAt a) (fieldType (schemaAt a) c (fieldNo (wideAt q 8 k 4)))) (hasChild (entryAt q k) (behind q k)) (untaken a q k (fieldNo (wideAt q 8 k 4))) (isScalar (schemaAt a) (typeNo (wideAt q 8 k 3)))
+  is34 : fault34 a q k c ≡ said34 (wideAt q 8 k 0) (wideAt q 8 k 3) (wideAt q 8 k 4)
   is34 = row34 ∙ rw (letter-at q k, second-at q k, third-at q k)
 
   module _ (l : ℕ) (el : l ≡ wideAt q 8 k 0) where
@@ -146,24 +171,29 @@ module _ (a q : List ℕ) (k : ℕ) (c : TypeNo) where
       on-other e t = sym (ap asFault is34 ∙ rw (← el, e, ← ex, ← f, t))
 
   module _ (z : wideAt q 8 k 0 ≡ 70) (x : ℕ) (ex : x ≡ wideAt q 8 k 4) (o : Bool) (eo : o ≡ ownsFields (schemaAt a) c) where
+    abbrev args : Option ℕ
+    args = argsFault 34 a q k (fieldNo x)
+
     pub not-owner : o ≡ false → Field 4 ≡ asFault (fault34 a q k c)
     not-owner t =
-        sym (ap asFault is34 ∙ rw (z, ← ex, ← eo, t) (ap asFault (unowned _ _ _ _ (untaken a q k (fieldNo x)) (untaken-late a q k (fieldNo x)))))
+        let decides = unowned _ _ _ _ args (fault-late 34 a q k (fieldNo x)) in
+        sym (ap asFault is34 ∙ rw (z, ← ex, ← eo, t) (ap asFault decides))
 
     module _ (to : o ≡ true) (h : Bool) (eh : h ≡ hasField (schemaAt a) c (fieldNo x)) where
       pub not-its : h ≡ false → Field 4 ≡ asFault (fault34 a q k c)
       not-its t =
-          sym (ap asFault is34 ∙ rw (z, ← ex, ← eo, to, ← eh, t) (ap asFault (unheld _ _ _ (untaken a q k (fieldNo x)) (untaken-late a q k (fieldNo x)))))
+          let decides = unheld _ _ _ args (fault-late 34 a q k (fieldNo x)) in
+          sym (ap asFault is34 ∙ rw (z, ← ex, ← eo, to, ← eh, t) (ap asFault decides))
 
-      module _ (th : h ≡ true) (v : Fault) (ev : v ≡ asFault (untaken a q k (fieldNo x))) where
+      module _ (th : h ≡ true) (v : Fault) (ev : v ≡ asFault args) where
         pub not-taken : (g : ℕ) → v ≡ Field g → Field g ≡ asFault (fault34 a q k c)
         not-taken g t =
-            sym (ap asFault is34 ∙ rw (z, ← ex, ← eo, to, ← eh, th, as-some (untaken a q k (fieldNo x)) v g ev t) (ap asFault (argued _ _ _ g)))
+            sym (ap asFault is34 ∙ rw (z, ← ex, ← eo, to, ← eh, th, as-some args v g ev t) (ap asFault (argued _ _ _ g)))
 
-        module _ (tv : v ≡ Fine) (d : Bool) (ed : d ≡ hasChild (entryAt q k) (behind q k)) (t : TypeNo) (et : t ≡ fieldType (schemaAt a) c (fieldNo x)) (b : Bool) (eb : b ≡ isScalar (schemaAt a) t) where
+        module _ (tv : v ≡ Fine) (d : Bool) (ed : d ≡ hasChild (entryAt q k) (behind q k)) (t : TypeNo)
+            (et : t ≡ fieldType (schemaAt a) c (fieldNo x)) (b : Bool) (eb : b ≡ isScalar (schemaAt a) t) where
           settled : fault34 a q k c ≡ form34 70 true true b d none (isScalar (schemaAt a) (typeNo (wideAt q 8 k 3)))
-          settled =
-              is34 ∙ rw (z, ← ex, ← eo, to, ← eh, th, as-none (untaken a q k (fieldNo x)) v ev tv, ← ed, ← et, ← eb)
+          settled = is34 ∙ rw (z, ← ex, ← eo, to, ← eh, th, as-none args v ev tv, ← ed, ← et, ← eb)
 
           pub leaf-child : b ≡ true → d ≡ true → Field 0 ≡ asFault (fault34 a q k c)
           unfolding form34
@@ -181,7 +211,11 @@ module _ (a q : List ℕ) (k : ℕ) (c : TypeNo) where
           unfolding form34
           inner-alone p r = sym (ap asFault settled ∙ rw (p, r))
 
-pub ruleset laws34 = (not-true, not-false, no-check34, on-scalar, on-other, not-owner, not-its, not-taken, leaf-child, leaf-alone, inner-child, inner-alone)
+pub ruleset type-laws = (no-check34, on-scalar, on-other)
+
+pub ruleset field-laws = (not-owner, not-its, not-taken, leaf-child, leaf-alone, inner-child, inner-alone)
+
+pub ruleset laws34 = (not-true, not-false, type-laws, field-laws)
 
 pub letter-is : (q : List ℕ) (k l m : ℕ) → l ≡ wideAt q 8 k 0 → l ≡ m → wideAt q 8 k 0 ≡ m
 letter-is q k l m e f = sym e ∙ f

@@ -8,6 +8,7 @@ use Rattle.rules.specs.Text.{Row, F, T, pairsOf}
 use Rattle.rules.specs.Search.{_#_, testEach, given, Check, faultOf, fault}
 use Rattle.rules.specs.Schema.{Schema, is, declaredArg, isScalar, fieldType, ownsFields, hasField, takesArg}
 use Rattle.rules.specs.Query.{depth, asked, condition, hasChild, steps, check33, check34}
+use Rattle.rules.specs.declared.ArgNo.{ArgNo}
 use Rattle.rules.specs.declared.FieldNo.{FieldNo}
 use Rattle.rules.specs.declared.TypeNo.{TypeNo}
 use Rattle.tables.specs.Read.{schemaAt}
@@ -37,12 +38,13 @@ fault34 a q k c =
     ∷ given (is T r) ((3 # isScalar s (condition r)) ∷ [])
     ∷ [])
 
--- the first argument of an entry that is not declared, and the first that is not the field's, at its field
-unfoldable pub undeclared : List ℕ → List ℕ → ℕ → Option ℕ
-undeclared a q k = faultOf (testEach (λ p. not (declaredArg (schemaAt a) (p .arg))) 2 6 (pairsOf (entryAt q k)))
+-- whether an argument passes the check with a number, as one of field f: 33 asks that it is declared, 34 that the field takes it
+unfoldable pub argPasses : ℕ → Schema → FieldNo → ArgNo → Bool
+argPasses n s f x = cond (eqb n 33) (declaredArg s x) (takesArg s f x)
 
-unfoldable pub untaken : List ℕ → List ℕ → ℕ → FieldNo → Option ℕ
-untaken a q k f = faultOf (testEach (λ p. not (takesArg (schemaAt a) f (p .arg))) 2 6 (pairsOf (entryAt q k)))
+-- the first argument of an entry that does not, at its field
+unfoldable pub argsFault : ℕ → List ℕ → List ℕ → ℕ → FieldNo → Option ℕ
+argsFault n a q k f = faultOf (testEach (λ p. not (argPasses n (schemaAt a) f (p .arg))) 2 6 (pairsOf (entryAt q k)))
 
 -- what the check with a number says of an entry
 unfoldable pub faultFor : ℕ → List ℕ → List ℕ → ℕ → ℕ → TypeNo → Option ℕ

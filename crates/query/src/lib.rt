@@ -1,13 +1,12 @@
 // What a query area says, and checks 32 to 34 over its entries.
 ghost use mathlib.Core.Path.{_≡_};
 ghost use Prim.Native.Nat.{_+_, _*_, _≤_, _<_};
-ghost use lib.ListN.{length, getD};
 ghost use Rattle.rules.specs.Search.{asFault, spotOr, firstLine};
 ghost use Rattle.rules.specs.Query.{hasChild, handsDown};
 ghost use Rattle.tables.specs.Read.{cell, wideAt, schemaAt};
 ghost use Rattle.schema.specs.Held.{SchemaHeld};
 ghost use Rattle.query.specs.Entries.{QueryHeld, entryAt, entriesAt, behind};
-ghost use Rattle.query.specs.Faults.{fault32, fault33, fault34, faultFor, undeclared, untaken, putFrom, checkFor};
+ghost use Rattle.query.specs.Faults.{fault32, fault33, fault34, faultFor, argPasses, argsFault, putFrom, checkFor};
 use rules::ArgNo;
 use rules::Fault;
 use rules::FieldNo;
@@ -25,7 +24,7 @@ pub fn entry_cell(q: &[u32], k: usize, c: usize) -> u32
 }
 
 // Whether entry k has a child: a line one deeper before the next line that is no deeper.
-pub fn has_child(q: &[u32], k: usize) -> bool
+fn has_child(q: &[u32], k: usize) -> bool
     requires { ⌜ QueryHeld (now q) ⌝ }
     requires { ⌜ k < cell (now q) 0 ⌝ }
     ensures { λ r. ⌜ r ≡ hasChild (entryAt (now (q .entry)) k) (behind (now (q .entry)) k) ⌝ }
@@ -47,7 +46,7 @@ pub fn has_child(q: &[u32], k: usize) -> bool
 }
 
 // The context that entry k, itself in the context c, hands down to its children.
-pub fn hands_down(a: &[u32], c: TypeNo, q: &[u32], k: usize) -> TypeNo
+fn hands_down(a: &[u32], c: TypeNo, q: &[u32], k: usize) -> TypeNo
     requires { ⌜ SchemaHeld (now a) ⌝ }
     requires { ⌜ QueryHeld (now q) ⌝ }
     requires { ⌜ k < cell (now q) 0 ⌝ }
@@ -60,7 +59,7 @@ pub fn hands_down(a: &[u32], c: TypeNo, q: &[u32], k: usize) -> TypeNo
 }
 
 // Check 32 of entry k, which may be at most d deep.
-pub fn check_32(q: &[u32], k: usize, d: u32) -> Fault
+fn check_32(q: &[u32], k: usize, d: u32) -> Fault
     requires { ⌜ QueryHeld (now q) ⌝ }
     requires { ⌜ k < cell (now q) 0 ⌝ }
     ensures { λ r. ⌜ r ≡ asFault (fault32 (now (q .entry)) k d) ⌝ }
@@ -76,17 +75,28 @@ pub fn check_32(q: &[u32], k: usize, d: u32) -> Fault
     Fault::Fine
 }
 
-// The first argument number of entry k that is not declared.
-fn args_declared(a: &[u32], q: &[u32], k: usize) -> Fault
+// Whether an argument passes the check with a number, as one of field f: 33 asks that it is declared, 34 that the field takes it.
+fn arg_passes(check: u32, a: &[u32], f: FieldNo, x: ArgNo) -> bool
+    requires { ⌜ SchemaHeld (now a) ⌝ }
+    ensures { λ r. ⌜ r ≡ argPasses check (schemaAt (now (a .entry))) f x ⌝ }
+{
+    if check == 33 {
+        return schema::declared_arg(a, x);
+    }
+    schema::takes_arg(a, f, x)
+}
+
+// The first argument number of entry k that does not pass the check with a number, as one of field f.
+fn args_fault(check: u32, a: &[u32], q: &[u32], k: usize, f: FieldNo) -> Fault
     requires { ⌜ SchemaHeld (now a) ⌝ }
     requires { ⌜ QueryHeld (now q) ⌝ }
     requires { ⌜ k < cell (now q) 0 ⌝ }
-    ensures { λ r. ⌜ r ≡ asFault (undeclared (now (a .entry)) (now (q .entry)) k) ⌝ }
+    ensures { λ r. ⌜ r ≡ asFault (argsFault check (now (a .entry)) (now (q .entry)) k f) ⌝ }
 {
     let n = entry_cell(q, k, 5) as usize;
     let mut i: usize = 0;
     while i < n {
-        if !schema::declared_arg(a, ArgNo(entry_cell(q, k, 6 + 2 * i))) {
+        if !arg_passes(check, a, f, ArgNo(entry_cell(q, k, 6 + 2 * i))) {
             return Fault::Field((6 + 2 * i) as u32);
         }
         i += 1;
@@ -95,7 +105,7 @@ fn args_declared(a: &[u32], q: &[u32], k: usize) -> Fault
 }
 
 // Check 33 of entry k.
-pub fn check_33(a: &[u32], q: &[u32], k: usize) -> Fault
+fn check_33(a: &[u32], q: &[u32], k: usize) -> Fault
     requires { ⌜ SchemaHeld (now a) ⌝ }
     requires { ⌜ QueryHeld (now q) ⌝ }
     requires { ⌜ k < cell (now q) 0 ⌝ }
@@ -114,28 +124,11 @@ pub fn check_33(a: &[u32], q: &[u32], k: usize) -> Fault
     if 255 < entry_cell(q, k, 3) {
         return Fault::Field(3);
     }
-    if !schema::declared_field(a, FieldNo(entry_cell(q, k, 4))) {
+    let f = FieldNo(entry_cell(q, k, 4));
+    if !schema::declared_field(a, f) {
         return Fault::Field(4);
     }
-    args_declared(a, q, k)
-}
-
-// The first argument number of entry k that is not the field's.
-fn args_taken(a: &[u32], q: &[u32], k: usize, f: FieldNo) -> Fault
-    requires { ⌜ SchemaHeld (now a) ⌝ }
-    requires { ⌜ QueryHeld (now q) ⌝ }
-    requires { ⌜ k < cell (now q) 0 ⌝ }
-    ensures { λ r. ⌜ r ≡ asFault (untaken (now (a .entry)) (now (q .entry)) k f) ⌝ }
-{
-    let n = entry_cell(q, k, 5) as usize;
-    let mut i: usize = 0;
-    while i < n {
-        if !schema::takes_arg(a, f, ArgNo(entry_cell(q, k, 6 + 2 * i))) {
-            return Fault::Field((6 + 2 * i) as u32);
-        }
-        i += 1;
-    }
-    Fault::Fine
+    args_fault(33, a, q, k, f)
 }
 
 // Check 34 of entry k, a field in the context c.
@@ -153,7 +146,7 @@ fn check_34_field(a: &[u32], q: &[u32], k: usize, c: TypeNo) -> Fault
     if !schema::has_field(a, c, f) {
         return Fault::Field(4);
     }
-    let args = args_taken(a, q, k, f);
+    let args = args_fault(34, a, q, k, f);
     if let Fault::Field(g) = args {
         return Fault::Field(g);
     }
@@ -171,7 +164,7 @@ fn check_34_field(a: &[u32], q: &[u32], k: usize, c: TypeNo) -> Fault
 }
 
 // Check 34 of entry k in the context c.
-pub fn check_34(a: &[u32], q: &[u32], k: usize, c: TypeNo) -> Fault
+fn check_34(a: &[u32], q: &[u32], k: usize, c: TypeNo) -> Fault
     requires { ⌜ SchemaHeld (now a) ⌝ }
     requires { ⌜ QueryHeld (now q) ⌝ }
     requires { ⌜ k < cell (now q) 0 ⌝ }
@@ -190,7 +183,7 @@ pub fn check_34(a: &[u32], q: &[u32], k: usize, c: TypeNo) -> Fault
 }
 
 // What the check with a number says of entry k, which may be d deep and stands in the context c.
-pub fn entry_fault(check: u32, a: &[u32], q: &[u32], k: usize, d: u32, c: TypeNo) -> Fault
+fn entry_fault(check: u32, a: &[u32], q: &[u32], k: usize, d: u32, c: TypeNo) -> Fault
     requires { ⌜ SchemaHeld (now a) ⌝ }
     requires { ⌜ QueryHeld (now q) ⌝ }
     requires { ⌜ k < cell (now q) 0 ⌝ }

@@ -39,16 +39,9 @@ pub fn judge_query(s: &[u8], a: &[u32], q: &mut [u32]) -> Verdict
     requires { ⌜ 3592 ≤ length (now q) ⌝ }
     ensures { λ r. ⌜ QueryJudged (schemaAt (now (a .entry))) (now (s .entry)) (length (now (q .entry))) (now (q .exit)) r ⌝ }
 {
-    if 65535 < s.len() {
-        return checks::refuse(30, checks::nowhere());
-    }
-    let b = form::first_broken(30, s);
-    if 0 < b.line {
-        return checks::refuse(30, b);
-    }
-    let c = search::first_offence(31, s, a, a, a, a);
-    if 0 < c.line {
-        return checks::refuse(31, c);
+    let b = checks::judge_form(30, s, a);
+    if b.number != 0 {
+        return b;
     }
     tables::lay_query(s, q);
     judge_entries(a, q)

@@ -35,78 +35,91 @@ module _ (a : List ℕ) (l x y : ℕ) where
   both false = refl
 
   -- the letters with one test: b is what the code found
-  module _ (b : Bool) where
-    pub field-fine : l ≡ 70 → b ≡ declaredType (schemaAt a) (typeNo x) → b ≡ true → Fine ≡ asFault (fault12 a l x y)
-    unfolding fault12 rowFor
-    field-fine e f t = known 70 Fine e (simp (← f, t))
 
-    pub field-broken : l ≡ 70 → b ≡ declaredType (schemaAt a) (typeNo x) → b ≡ false → Field 2 ≡ asFault (fault12 a l x y)
+  module _ (b : Bool) (e : l ≡ 70) (f : b ≡ declaredType (schemaAt a) (typeNo x)) where
+    pub field-fine : b ≡ true → Fine ≡ asFault (fault12 a l x y)
     unfolding fault12 rowFor
-    field-broken e f t = known 70 (Field 2) e (simp (← f, t))
+    field-fine t = known 70 Fine e (simp (← f, t))
 
-    pub arg-fine : l ≡ 65 → b ≡ isScalar (schemaAt a) (typeNo x) → b ≡ true → Fine ≡ asFault (fault12 a l x y)
+    pub field-broken : b ≡ false → Field 2 ≡ asFault (fault12 a l x y)
     unfolding fault12 rowFor
-    arg-fine e f t = known 65 Fine e (simp (← f, t))
+    field-broken t = known 70 (Field 2) e (simp (← f, t))
 
-    pub arg-broken : l ≡ 65 → b ≡ isScalar (schemaAt a) (typeNo x) → b ≡ false → Field 2 ≡ asFault (fault12 a l x y)
+  module _ (b : Bool) (e : l ≡ 65) (f : b ≡ isScalar (schemaAt a) (typeNo x)) where
+    pub arg-fine : b ≡ true → Fine ≡ asFault (fault12 a l x y)
     unfolding fault12 rowFor
-    arg-broken e f t = known 65 (Field 2) e (simp (← f, t))
+    arg-fine t = known 65 Fine e (simp (← f, t))
 
-    pub query-fine : l ≡ 81 → b ≡ isObject (schemaAt a) (typeNo x) → b ≡ true → Fine ≡ asFault (fault12 a l x y)
+    pub arg-broken : b ≡ false → Field 2 ≡ asFault (fault12 a l x y)
     unfolding fault12 rowFor
-    query-fine e f t = known 81 Fine e (simp (← f, t))
+    arg-broken t = known 65 (Field 2) e (simp (← f, t))
 
-    pub query-broken : l ≡ 81 → b ≡ isObject (schemaAt a) (typeNo x) → b ≡ false → Field 2 ≡ asFault (fault12 a l x y)
+  module _ (b : Bool) (e : l ≡ 81) (f : b ≡ isObject (schemaAt a) (typeNo x)) where
+    pub query-fine : b ≡ true → Fine ≡ asFault (fault12 a l x y)
     unfolding fault12 rowFor
-    query-broken e f t = known 81 (Field 2) e (simp (← f, t))
+    query-fine t = known 81 Fine e (simp (← f, t))
 
-  -- the first of two tests, which decides whatever the second says
-  module _ (b : Bool) where
-    pub has-first : l ≡ 72 → b ≡ ownsFields (schemaAt a) (typeNo x) → b ≡ false → Field 2 ≡ asFault (fault12 a l x y)
+    pub query-broken : b ≡ false → Field 2 ≡ asFault (fault12 a l x y)
     unfolding fault12 rowFor
-    has-first e f t = known 72 (Field 2) e (simp (← f, t) (both (declaredField (schemaAt a) (fieldNo y))))
+    query-broken t = known 81 (Field 2) e (simp (← f, t))
 
-    pub takes-first : l ≡ 71 → b ≡ declaredField (schemaAt a) (fieldNo x) → b ≡ false → Field 2 ≡ asFault (fault12 a l x y)
+  -- the letters with two: b and d are what the code found; the first decides whatever the second says
+
+  module _ (b : Bool) (e : l ≡ 72) (f : b ≡ ownsFields (schemaAt a) (typeNo x)) where
+    pub has-first : b ≡ false → Field 2 ≡ asFault (fault12 a l x y)
     unfolding fault12 rowFor
-    takes-first e f t = known 71 (Field 2) e (simp (← f, t) (both (declaredArg (schemaAt a) (argNo y))))
+    has-first t = known 72 (Field 2) e (simp (← f, t) (both (declaredField (schemaAt a) (fieldNo y))))
 
-    pub member-first : l ≡ 77 → b ≡ hasMembers (schemaAt a) (typeNo x) → b ≡ false → Field 2 ≡ asFault (fault12 a l x y)
+    module _ (d : Bool) (t : b ≡ true) (g : d ≡ declaredField (schemaAt a) (fieldNo y)) where
+      pub has-fine : d ≡ true → Fine ≡ asFault (fault12 a l x y)
+      unfolding fault12 rowFor
+      has-fine u = known 72 Fine e (simp (← f, t, ← g, u))
+
+      pub has-second : d ≡ false → Field 3 ≡ asFault (fault12 a l x y)
+      unfolding fault12 rowFor
+      has-second u = known 72 (Field 3) e (simp (← f, t, ← g, u))
+
+  module _ (b : Bool) (e : l ≡ 71) (f : b ≡ declaredField (schemaAt a) (fieldNo x)) where
+    pub takes-first : b ≡ false → Field 2 ≡ asFault (fault12 a l x y)
     unfolding fault12 rowFor
-    member-first e f t = known 77 (Field 2) e (simp (← f, t) (both (isObject (schemaAt a) (typeNo y))))
+    takes-first t = known 71 (Field 2) e (simp (← f, t) (both (declaredArg (schemaAt a) (argNo y))))
 
-  -- the second of two tests: b and d are what the code found
-  module _ (b d : Bool) where
-    pub has-fine : l ≡ 72 → b ≡ ownsFields (schemaAt a) (typeNo x) → b ≡ true → d ≡ declaredField (schemaAt a) (fieldNo y) → d ≡ true → Fine ≡ asFault (fault12 a l x y)
+    module _ (d : Bool) (t : b ≡ true) (g : d ≡ declaredArg (schemaAt a) (argNo y)) where
+      pub takes-fine : d ≡ true → Fine ≡ asFault (fault12 a l x y)
+      unfolding fault12 rowFor
+      takes-fine u = known 71 Fine e (simp (← f, t, ← g, u))
+
+      pub takes-second : d ≡ false → Field 3 ≡ asFault (fault12 a l x y)
+      unfolding fault12 rowFor
+      takes-second u = known 71 (Field 3) e (simp (← f, t, ← g, u))
+
+  module _ (b : Bool) (e : l ≡ 77) (f : b ≡ hasMembers (schemaAt a) (typeNo x)) where
+    pub member-first : b ≡ false → Field 2 ≡ asFault (fault12 a l x y)
     unfolding fault12 rowFor
-    has-fine e f t g u = known 72 Fine e (simp (← f, t, ← g, u))
+    member-first t = known 77 (Field 2) e (simp (← f, t) (both (isObject (schemaAt a) (typeNo y))))
 
-    pub has-second : l ≡ 72 → b ≡ ownsFields (schemaAt a) (typeNo x) → b ≡ true → d ≡ declaredField (schemaAt a) (fieldNo y) → d ≡ false → Field 3 ≡ asFault (fault12 a l x y)
-    unfolding fault12 rowFor
-    has-second e f t g u = known 72 (Field 3) e (simp (← f, t, ← g, u))
+    module _ (d : Bool) (t : b ≡ true) (g : d ≡ isObject (schemaAt a) (typeNo y)) where
+      pub member-fine : d ≡ true → Fine ≡ asFault (fault12 a l x y)
+      unfolding fault12 rowFor
+      member-fine u = known 77 Fine e (simp (← f, t, ← g, u))
 
-    pub takes-fine : l ≡ 71 → b ≡ declaredField (schemaAt a) (fieldNo x) → b ≡ true → d ≡ declaredArg (schemaAt a) (argNo y) → d ≡ true → Fine ≡ asFault (fault12 a l x y)
-    unfolding fault12 rowFor
-    takes-fine e f t g u = known 71 Fine e (simp (← f, t, ← g, u))
+      pub member-second : d ≡ false → Field 3 ≡ asFault (fault12 a l x y)
+      unfolding fault12 rowFor
+      member-second u = known 77 (Field 3) e (simp (← f, t, ← g, u))
 
-    pub takes-second : l ≡ 71 → b ≡ declaredField (schemaAt a) (fieldNo x) → b ≡ true → d ≡ declaredArg (schemaAt a) (argNo y) → d ≡ false → Field 3 ≡ asFault (fault12 a l x y)
-    unfolding fault12 rowFor
-    takes-second e f t g u = known 71 (Field 3) e (simp (← f, t, ← g, u))
-
-    pub member-fine : l ≡ 77 → b ≡ hasMembers (schemaAt a) (typeNo x) → b ≡ true → d ≡ isObject (schemaAt a) (typeNo y) → d ≡ true → Fine ≡ asFault (fault12 a l x y)
-    unfolding fault12 rowFor
-    member-fine e f t g u = known 77 Fine e (simp (← f, t, ← g, u))
-
-    pub member-second : l ≡ 77 → b ≡ hasMembers (schemaAt a) (typeNo x) → b ≡ true → d ≡ isObject (schemaAt a) (typeNo y) → d ≡ false → Field 3 ≡ asFault (fault12 a l x y)
-    unfolding fault12 rowFor
-    member-second e f t g u = known 77 (Field 3) e (simp (← f, t, ← g, u))
-
-  pub other-fine : (l ≡ 83 → ⊥) → (l ≡ 70 → ⊥) → (l ≡ 65 → ⊥) → (l ≡ 72 → ⊥) → (l ≡ 71 → ⊥) → (l ≡ 77 → ⊥) → (l ≡ 81 → ⊥) → Fine ≡ asFault (fault12 a l x y)
+  pub other-fine : (l ≡ 83 → ⊥) → (l ≡ 70 → ⊥) → (l ≡ 65 → ⊥) → (l ≡ 72 → ⊥) → (l ≡ 71 → ⊥) → (l ≡ 77 → ⊥) → (l ≡ 81 → ⊥)
+      → Fine ≡ asFault (fault12 a l x y)
   unfolding fault12 rowFor
-  other-fine s f g h t m q = rw (ne-eqb l 83 s, ne-eqb l 70 f, ne-eqb l 65 g, ne-eqb l 72 h, ne-eqb l 71 t, ne-eqb l 77 m, ne-eqb l 81 q)
+  other-fine s f g h t m q =
+      rw (ne-eqb l 83 s, ne-eqb l 70 f, ne-eqb l 65 g, ne-eqb l 72 h, ne-eqb l 71 t, ne-eqb l 77 m, ne-eqb l 81 q)
 
-pub ruleset row-laws = (not-true, not-false, scalar-broken, scalar-fine, field-fine, field-broken, arg-fine, arg-broken, has-first, has-fine, has-second)
+pub ruleset scalar-laws = (scalar-broken, scalar-fine)
 
-pub ruleset pair-row-laws = (not-true, not-false, takes-first, takes-fine, takes-second, member-first, member-fine, member-second, query-fine, query-broken, other-fine)
+pub ruleset row-laws = (not-true, not-false, field-fine, field-broken, arg-fine, arg-broken, has-first, has-fine, has-second)
+
+pub ruleset member-laws = (takes-first, takes-fine, takes-second, member-first, member-fine, member-second)
+
+pub ruleset pair-row-laws = (not-true, not-false, query-fine, query-broken, other-fine)
 
 -- ---- checks 14 and 15
 

@@ -5,7 +5,6 @@ use mathlib.Core.List.{List, [], _∷_, map}
 use mathlib.Core.Bool.{Bool, true, false, not, _&&_, _||_}
 use native.Mathlib.Omega.{arith}
 use native.Mathlib.Numerals.{add-one, unary-clauses}
-use lib.ListN.{getD}
 use borrow.Author.Tests.{eq-eqb, ne-eqb, not-true, not-false}
 use Rattle.rules.specs.Lists.{any, those, keepIf, countUp}
 use Rattle.rules.specs.Text.{fieldNo}
@@ -53,28 +52,30 @@ pair-ended a base n x y j k h = sym (left-ended (pairAt a base x y) n j k h)
 
 pub ruleset pair-laws = (left-all, pair-found, pair-on, pair-ended)
 
--- a row with one number
-module _ (a : List ℕ) (base n x j : ℕ) where
-  pub first-found : Left (firstAt a base x) n j → j < n → getD a (base + 3 * j + 1) 0 ≡ x → true ≡ firstIn a base n x
-  unfolding firstIn firstAt cell
-  first-found k h e = sym (left-found (firstAt a base x) n j k h (eq-eqb (getD a (base + 3 * j + 1) 0) x e))
+-- a row with one number, v
+module _ (a : List ℕ) (base n x j v : ℕ) where
+  pub first-found : Left (firstAt a base x) n j → j < n → v ≡ cell a (base + 3 * j + 1) → v ≡ x → true ≡ firstIn a base n x
+  unfolding firstIn firstAt
+  first-found k h f e = sym (left-found (firstAt a base x) n j k h (rw (← f) (eq-eqb v x e)))
 
-  pub first-on : Left (firstAt a base x) n j → j < n → (getD a (base + 3 * j + 1) 0 ≡ x → ⊥) → Left (firstAt a base x) n (j + 1)
-  unfolding firstAt cell
-  first-on k h e = left-on (firstAt a base x) n j k h (ne-eqb (getD a (base + 3 * j + 1) 0) x e)
+  pub first-on : Left (firstAt a base x) n j → j < n → v ≡ cell a (base + 3 * j + 1) → (v ≡ x → ⊥) → Left (firstAt a base x) n (j + 1)
+  unfolding firstAt
+  first-on k h f e = left-on (firstAt a base x) n j k h (rw (← f) (ne-eqb v x e))
 
-  pub first-ended : Left (firstAt a base x) n j → n ≤ j → false ≡ firstIn a base n x
-  unfolding firstIn
-  first-ended k h = sym (left-ended (firstAt a base x) n j k h)
+pub first-ended : (a : List ℕ) (base n x j : ℕ) → Left (firstAt a base x) n j → n ≤ j → false ≡ firstIn a base n x
+unfolding firstIn
+first-ended a base n x j k h = sym (left-ended (firstAt a base x) n j k h)
 
 pub ruleset first-laws = (left-all, first-found, first-on, first-ended)
 
 -- a search through what a search has chosen is one search
-any-those : {A B : Type 0} (p : ℕ → Bool) (q : B → Bool) (g : ℕ → A) (h : A → B) (js : List ℕ) → any q (map h (map g (those p js))) ≡ any (λ j. p j && q (h (g j))) js
+any-those : {A B : Type 0} (p : ℕ → Bool) (q : B → Bool) (g : ℕ → A) (h : A → B) (js : List ℕ)
+    → any q (map h (map g (those p js))) ≡ any (λ j. p j && q (h (g j))) js
 any-those p q g h [] = refl
 any-those p q g h (j ∷ js) = kept (p j) (any-those p q g h js)
   where
-    kept : (b : Bool) → any q (map h (map g (those p js))) ≡ any (λ i. p i && q (h (g i))) js → any q (map h (map g (keepIf b j (those p js)))) ≡ ((b && q (h (g j))) || any (λ i. p i && q (h (g i))) js)
+    kept : (b : Bool) → any q (map h (map g (those p js))) ≡ any (λ i. p i && q (h (g i))) js
+        → any q (map h (map g (keepIf b j (those p js)))) ≡ ((b && q (h (g j))) || any (λ i. p i && q (h (g i))) js)
     kept true e = rw e
     kept false e = e
 
@@ -86,20 +87,23 @@ pub lacks-any : (a : List ℕ) (t o : TypeNo) → lacks a t o ≡ any (lacksAt a
 unfolding lacks lacksAt schemaAt secondsIn
 lacks-any a t o = any-those (firstAt a 776 (t .0)) _ _ fieldNo (countUp 0 (cell a 3))
 
-module _ (a : List ℕ) (t o : TypeNo) (j : ℕ) where
-  pub lacks-found : (b : Bool) → Left (lacksAt a t o) (cell a 3) j → j < cell a 3 → getD a (776 + 3 * j + 1) 0 ≡ t .0 → b ≡ hasField (schemaAt a) o (fieldNo (getD a (776 + 3 * j + 2) 0)) → b ≡ false → true ≡ lacks a t o
-  unfolding lacksAt firstAt cell
-  lacks-found b k h e f n = sym (lacks-any a t o ∙ left-found (lacksAt a t o) (cell a 3) j k h (simp (eq-eqb (getD a (776 + 3 * j + 1) 0) (t .0) e, ← f, n)))
+module _ (a : List ℕ) (t o : TypeNo) (j : ℕ) (k : Left (lacksAt a t o) (cell a 3) j) where
+  -- v and w are the numbers of the row, b is whether o has the field w
+  module _ (v : ℕ) (h : j < cell a 3) (f : v ≡ cell a (776 + 3 * j + 1)) where
+    pub lacks-other : (v ≡ t .0 → ⊥) → Left (lacksAt a t o) (cell a 3) (j + 1)
+    unfolding lacksAt firstAt
+    lacks-other e = left-on (lacksAt a t o) (cell a 3) j k h (simp (← f, ne-eqb v (t .0) e))
 
-  pub lacks-other : Left (lacksAt a t o) (cell a 3) j → j < cell a 3 → (getD a (776 + 3 * j + 1) 0 ≡ t .0 → ⊥) → Left (lacksAt a t o) (cell a 3) (j + 1)
-  unfolding lacksAt firstAt cell
-  lacks-other k h e = left-on (lacksAt a t o) (cell a 3) j k h (simp (ne-eqb (getD a (776 + 3 * j + 1) 0) (t .0) e))
+    module _ (w : ℕ) (b : Bool) (e : v ≡ t .0) (g : w ≡ cell a (776 + 3 * j + 2)) (d : b ≡ hasField (schemaAt a) o (fieldNo w)) where
+      pub lacks-found : b ≡ false → true ≡ lacks a t o
+      unfolding lacksAt firstAt
+      lacks-found n = sym (lacks-any a t o ∙ left-found (lacksAt a t o) (cell a 3) j k h (simp (← f, eq-eqb v (t .0) e, ← g, ← d, n)))
 
-  pub lacks-not : (b : Bool) → Left (lacksAt a t o) (cell a 3) j → j < cell a 3 → getD a (776 + 3 * j + 1) 0 ≡ t .0 → b ≡ hasField (schemaAt a) o (fieldNo (getD a (776 + 3 * j + 2) 0)) → b ≡ true → Left (lacksAt a t o) (cell a 3) (j + 1)
-  unfolding lacksAt firstAt cell
-  lacks-not b k h e f n = left-on (lacksAt a t o) (cell a 3) j k h (simp (eq-eqb (getD a (776 + 3 * j + 1) 0) (t .0) e, ← f, n))
+      pub lacks-not : b ≡ true → Left (lacksAt a t o) (cell a 3) (j + 1)
+      unfolding lacksAt firstAt
+      lacks-not n = left-on (lacksAt a t o) (cell a 3) j k h (simp (← f, eq-eqb v (t .0) e, ← g, ← d, n))
 
-  pub lacks-ended : Left (lacksAt a t o) (cell a 3) j → cell a 3 ≤ j → false ≡ lacks a t o
-  lacks-ended k h = sym (lacks-any a t o ∙ left-ended (lacksAt a t o) (cell a 3) j k h)
+  pub lacks-ended : cell a 3 ≤ j → false ≡ lacks a t o
+  lacks-ended h = sym (lacks-any a t o ∙ left-ended (lacksAt a t o) (cell a 3) j k h)
 
 pub ruleset lacks-laws = (not-true, not-false, left-all, lacks-found, lacks-other, lacks-not, lacks-ended)

@@ -2,13 +2,12 @@
 use Prim.Native.Nat.{ℕ}
 use mathlib.Core.List.{List, [], _∷_}
 use mathlib.Core.Bool.{Bool, not, cond}
-use mathlib.Core.Option.{Option, none, some}
+use mathlib.Core.Option.{Option, none}
 use lib.Dec.{eqb}
 use Rattle.rules.specs.Lists.{any}
 use Rattle.rules.specs.Text.{Row, U, typeNo}
 use Rattle.rules.specs.Search.{fault, faultIf}
 use Rattle.rules.specs.Schema.{check12, check14, hasField}
-use Rattle.rules.specs.declared.FieldNo.{FieldNo}
 use Rattle.rules.specs.declared.TypeNo.{TypeNo}
 use Rattle.tables.specs.Read.{schemaAt}
 

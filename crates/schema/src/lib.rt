@@ -1,12 +1,10 @@
 // What a schema area says, asked by number, and what checks 12, 14 and 15 say of one row.
 ghost use mathlib.Core.Path.{_≡_};
-ghost use mathlib.Core.Bool.{_&&_};
 ghost use Prim.Native.Nat.{_+_, _*_, _≤_, _<_};
 ghost use lib.ListN.{length};
-ghost use lib.Dec.{eqb};
 ghost use Rattle.rules.specs.Search.{asFault};
-ghost use Rattle.rules.specs.Schema.{kind, fieldType, listMark, hasField, takesArg, declaredType, declaredField, declaredArg, argType, queryType, isScalar, isObject, ownsFields, hasMembers, isList, inRange, compatible};
-ghost use Rattle.tables.specs.Read.{cell, narrowAt, pairAt, firstAt, pairIn, firstIn, schemaAt};
+ghost use Rattle.rules.specs.Schema.{kind, fieldType, listMark, hasField, takesArg, declaredType, declaredField, declaredArg, argType, queryType, isScalar, isObject, ownsFields, hasMembers, inRange, compatible};
+ghost use Rattle.tables.specs.Read.{cell, narrowAt, pairAt, pairIn, firstIn, schemaAt};
 ghost use Rattle.schema.specs.Held.{SchemaHeld};
 ghost use Rattle.schema.specs.Faults.{fault12, fault14, fault15, lacks};
 use rules::ArgNo;
@@ -14,7 +12,15 @@ use rules::Fault;
 use rules::FieldNo;
 use rules::TypeNo;
 
-// Cell k of row j of a narrow table, 0 where there is no such row.
+// Cell k of row j of a narrow table.
+fn row_cell(a: &[u32], base: usize, j: usize, k: usize) -> u32
+    requires { ⌜ base + 3 * j + k < length (now a) ⌝ }
+    ensures { λ r. ⌜ r ≡ cell (now (a .entry)) (base + 3 * j + k) ⌝ }
+{
+    a[base + 3 * j + k]
+}
+
+// The same of a table whose count stands at `head`: 0 where there is no such row.
 pub fn narrow_at(a: &[u32], head: usize, base: usize, j: u32, k: usize) -> u32
     requires { ⌜ head < length (now a) ⌝ }
     requires { ⌜ base + 3 * cell (now a) head ≤ length (now a) ⌝ }
@@ -23,7 +29,7 @@ pub fn narrow_at(a: &[u32], head: usize, base: usize, j: u32, k: usize) -> u32
     ensures { λ r. ⌜ r ≡ narrowAt (now (a .entry)) head base j k ⌝ }
 {
     if j < a[head] {
-        return a[base + 3 * (j as usize) + k];
+        return row_cell(a, base, j as usize, k);
     }
     0
 }
@@ -35,14 +41,14 @@ pub fn pair_at(a: &[u32], base: usize, x: u32, y: u32, j: usize) -> bool
     requires { ⌜ j ≤ 1024 ⌝ }
     ensures { λ r. ⌜ r ≡ pairAt (now (a .entry)) base x y j ⌝ }
 {
-    if a[base + 3 * j + 1] == x {
-        return a[base + 3 * j + 2] == y;
+    if row_cell(a, base, j, 1) == x {
+        return row_cell(a, base, j, 2) == y;
     }
     false
 }
 
 // Whether one of the first n rows of a narrow table has the numbers x and y.
-pub fn pair_in(a: &[u32], base: usize, n: u32, x: u32, y: u32) -> bool
+fn pair_in(a: &[u32], base: usize, n: u32, x: u32, y: u32) -> bool
     requires { ⌜ base + 3 * n ≤ length (now a) ⌝ }
     requires { ⌜ base ≤ 10000 ⌝ }
     requires { ⌜ n ≤ 1024 ⌝ }
@@ -60,7 +66,7 @@ pub fn pair_in(a: &[u32], base: usize, n: u32, x: u32, y: u32) -> bool
 }
 
 // Whether one of the first n rows of a narrow table has the first number x.
-pub fn first_in(a: &[u32], base: usize, n: u32, x: u32) -> bool
+fn first_in(a: &[u32], base: usize, n: u32, x: u32) -> bool
     requires { ⌜ base + 3 * n ≤ length (now a) ⌝ }
     requires { ⌜ base ≤ 10000 ⌝ }
     requires { ⌜ n ≤ 1024 ⌝ }
@@ -69,7 +75,7 @@ pub fn first_in(a: &[u32], base: usize, n: u32, x: u32) -> bool
     let end = n as usize;
     let mut j: usize = 0;
     while j < end {
-        if a[base + 3 * j + 1] == x {
+        if row_cell(a, base, j, 1) == x {
             return true;
         }
         j += 1;
@@ -79,13 +85,15 @@ pub fn first_in(a: &[u32], base: usize, n: u32, x: u32) -> bool
 
 // ---- kinds of types
 
-pub fn kind_of(a: &[u32], t: TypeNo) -> u32
+// The letter of type t, 0 where there is no such type.
+fn kind_of(a: &[u32], t: TypeNo) -> u32
     requires { ⌜ SchemaHeld (now a) ⌝ }
     ensures { λ r. ⌜ r ≡ kind (schemaAt (now (a .entry))) t ⌝ }
 {
     narrow_at(a, 0, 8, t.0, 0)
 }
 
+// Whether t is a type.
 pub fn is_declared(a: &[u32], t: TypeNo) -> bool
     requires { ⌜ SchemaHeld (now a) ⌝ }
     ensures { λ r. ⌜ r ≡ declaredType (schemaAt (now (a .entry))) t ⌝ }
@@ -103,6 +111,7 @@ pub fn is_declared(a: &[u32], t: TypeNo) -> bool
     k == 85
 }
 
+// Whether t is a scalar type.
 pub fn is_scalar(a: &[u32], t: TypeNo) -> bool
     requires { ⌜ SchemaHeld (now a) ⌝ }
     ensures { λ r. ⌜ r ≡ isScalar (schemaAt (now (a .entry))) t ⌝ }
@@ -110,6 +119,7 @@ pub fn is_scalar(a: &[u32], t: TypeNo) -> bool
     kind_of(a, t) == 83
 }
 
+// Whether t is an object type.
 pub fn is_object(a: &[u32], t: TypeNo) -> bool
     requires { ⌜ SchemaHeld (now a) ⌝ }
     ensures { λ r. ⌜ r ≡ isObject (schemaAt (now (a .entry))) t ⌝ }
@@ -117,6 +127,7 @@ pub fn is_object(a: &[u32], t: TypeNo) -> bool
     kind_of(a, t) == 79
 }
 
+// Whether t can have fields: an object type or an interface.
 pub fn owns_fields(a: &[u32], t: TypeNo) -> bool
     requires { ⌜ SchemaHeld (now a) ⌝ }
     ensures { λ r. ⌜ r ≡ ownsFields (schemaAt (now (a .entry))) t ⌝ }
@@ -128,7 +139,8 @@ pub fn owns_fields(a: &[u32], t: TypeNo) -> bool
     k == 73
 }
 
-pub fn has_members(a: &[u32], t: TypeNo) -> bool
+// Whether t can have members: a union or an interface.
+fn has_members(a: &[u32], t: TypeNo) -> bool
     requires { ⌜ SchemaHeld (now a) ⌝ }
     ensures { λ r. ⌜ r ≡ hasMembers (schemaAt (now (a .entry))) t ⌝ }
 {
@@ -152,6 +164,7 @@ pub fn in_range(a: &[u32], t: TypeNo, x: u32) -> bool
 
 // ---- fields, arguments, members
 
+// Whether f is a field.
 pub fn declared_field(a: &[u32], f: FieldNo) -> bool
     requires { ⌜ SchemaHeld (now a) ⌝ }
     ensures { λ r. ⌜ r ≡ declaredField (schemaAt (now (a .entry))) f ⌝ }
@@ -159,6 +172,7 @@ pub fn declared_field(a: &[u32], f: FieldNo) -> bool
     f.0 < a[1]
 }
 
+// The type of field f, which is the same for every owner.
 pub fn field_type(a: &[u32], owner: TypeNo, f: FieldNo) -> TypeNo
     requires { ⌜ SchemaHeld (now a) ⌝ }
     ensures { λ r. ⌜ r ≡ fieldType (schemaAt (now (a .entry))) owner f ⌝ }
@@ -166,6 +180,7 @@ pub fn field_type(a: &[u32], owner: TypeNo, f: FieldNo) -> TypeNo
     TypeNo(narrow_at(a, 1, 200, f.0, 1))
 }
 
+// The list mark of field f, which is the same for every owner.
 pub fn list_mark(a: &[u32], owner: TypeNo, f: FieldNo) -> u32
     requires { ⌜ SchemaHeld (now a) ⌝ }
     ensures { λ r. ⌜ r ≡ listMark (schemaAt (now (a .entry))) owner f ⌝ }
@@ -173,6 +188,7 @@ pub fn list_mark(a: &[u32], owner: TypeNo, f: FieldNo) -> u32
     narrow_at(a, 1, 200, f.0, 2)
 }
 
+// Whether x is an argument.
 pub fn declared_arg(a: &[u32], x: ArgNo) -> bool
     requires { ⌜ SchemaHeld (now a) ⌝ }
     ensures { λ r. ⌜ r ≡ declaredArg (schemaAt (now (a .entry))) x ⌝ }
@@ -180,6 +196,7 @@ pub fn declared_arg(a: &[u32], x: ArgNo) -> bool
     x.0 < a[2]
 }
 
+// The type of argument x.
 pub fn arg_type(a: &[u32], x: ArgNo) -> TypeNo
     requires { ⌜ SchemaHeld (now a) ⌝ }
     ensures { λ r. ⌜ r ≡ argType (schemaAt (now (a .entry))) x ⌝ }
@@ -187,6 +204,7 @@ pub fn arg_type(a: &[u32], x: ArgNo) -> TypeNo
     TypeNo(narrow_at(a, 2, 584, x.0, 1))
 }
 
+// Whether t has the field f (H).
 pub fn has_field(a: &[u32], t: TypeNo, f: FieldNo) -> bool
     requires { ⌜ SchemaHeld (now a) ⌝ }
     ensures { λ r. ⌜ r ≡ hasField (schemaAt (now (a .entry))) t f ⌝ }
@@ -194,6 +212,7 @@ pub fn has_field(a: &[u32], t: TypeNo, f: FieldNo) -> bool
     pair_in(a, 776, a[3], t.0, f.0)
 }
 
+// Whether field f takes the argument x (G).
 pub fn takes_arg(a: &[u32], f: FieldNo, x: ArgNo) -> bool
     requires { ⌜ SchemaHeld (now a) ⌝ }
     ensures { λ r. ⌜ r ≡ takesArg (schemaAt (now (a .entry))) f x ⌝ }
@@ -212,6 +231,7 @@ pub fn is_compatible(a: &[u32], o: TypeNo, t: TypeNo) -> bool
     pair_in(a, 6920, a[5], t.0, o.0)
 }
 
+// The type of the query node (Q).
 pub fn query_type(a: &[u32]) -> TypeNo
     requires { ⌜ SchemaHeld (now a) ⌝ }
     ensures { λ r. ⌜ r ≡ queryType (schemaAt (now (a .entry))) ⌝ }
@@ -220,15 +240,15 @@ pub fn query_type(a: &[u32]) -> TypeNo
 }
 
 // Whether a field of t is missing from o.
-pub fn lacks_field(a: &[u32], t: TypeNo, o: TypeNo) -> bool
+fn lacks_field(a: &[u32], t: TypeNo, o: TypeNo) -> bool
     requires { ⌜ SchemaHeld (now a) ⌝ }
     ensures { λ r. ⌜ r ≡ lacks (now (a .entry)) t o ⌝ }
 {
     let end = a[3] as usize;
     let mut j: usize = 0;
     while j < end {
-        if a[776 + 3 * j + 1] == t.0 {
-            if !has_field(a, o, FieldNo(a[776 + 3 * j + 2])) {
+        if row_cell(a, 776, j, 1) == t.0 {
+            if !has_field(a, o, FieldNo(row_cell(a, 776, j, 2))) {
                 return true;
             }
         }

@@ -1,14 +1,14 @@
 -- What the code may ask at a line: the areas can be read, and the earlier lines stand in them. Assumes nothing.
-use Prim.Native.Nat.{ℕ, zero, suc, _+_, _*_, _≤_, _<_}
+use Prim.Native.Nat.{ℕ, suc, _+_, _*_, _≤_, _<_}
 use native.Mathlib.Omega.{arith}
 use mathlib.Core.Path.{_≡_, refl, sym, ap, _∙_, subst, subst₂}
 use mathlib.Core.Logic.{_⊎_, inl, inr}
-use mathlib.Core.Bool.{Bool, true, false, _&&_, _||_, not, cond, true≢false, false≢true}
+use mathlib.Core.Bool.{Bool, true, false, _&&_, _||_, not, cond, false≢true}
 use mathlib.Core.List.{List, [], _∷_, _++_}
 use lib.ListN.{length, getD, drop}
 use lib.Dec.{eqb, ltb}
-use borrow.Author.Tests.{eq-eqb, ne-eqb, eqb-true, eqb-false}
-use Rattle.rules.specs.Lists.{among, any, sumOf}
+use borrow.Author.Tests.{eq-eqb, ne-eqb, eqb-true}
+use Rattle.rules.specs.Lists.{among, sumOf}
 use Rattle.rules.specs.Text.{Row, at, row, rows, fieldNo, E, G, H, M, P}
 use Rattle.rules.specs.Schema.{isList}
 use Rattle.rules.proofs.Clean.{Each}
@@ -16,7 +16,7 @@ use Rattle.rules.proofs.Sums.{sum-append}
 use Rattle.text.specs.declared.Row.{Row as Read}
 use Rattle.text.specs.Line.{lineAt, nextAt, rowAt, padded}
 use Rattle.text.proofs.Rows.{padded-at, padded-length}
-use Rattle.tables.specs.Layout.{belongs, counted, schemaArea, nodeArea, propertyArea, valueArea}
+use Rattle.tables.specs.Layout.{belongs, counted}
 use Rattle.tables.specs.Fill.{whole}
 use Rattle.tables.specs.Read.{cell, schemaAt}
 use Rattle.tables.proofs.Cells.{counted-append}
@@ -26,7 +26,8 @@ use Rattle.graph.specs.Faults.{nodesAt}
 use Rattle.graph.specs.Held.{NodesHeld, PropertiesHeld}
 use Rattle.search.specs.declared.Counts.{Counts}
 use Rattle.search.specs.Count.{countsOf, Within}
-use Rattle.search.specs.Search.{Areas, limit, pairBase, pairCount, SearchedFor, plainCheck, SchemaReady, GraphReady, Ready, GraphTestable, Testable, Clashable}
+use Rattle.search.specs.Search.{Areas, limit, pairBase, pairCount, SearchedFor, plainCheck}
+use Rattle.search.specs.Search.{SchemaReady, GraphReady, Ready, GraphTestable, Testable, Clashable}
 use Rattle.search.proofs.Splitting.{Searched, by-11, by-12, by-13, by-14, by-15, by-21, by-22, by-23, by-24, by-25, by-26, by-31}
 use Rattle.search.proofs.DataSplit.{each-there}
 use Rattle.search.proofs.Sizes.{rows-numbers}
@@ -36,7 +37,7 @@ use Rattle.search.proofs.Looping.{Going, read-here, rows-split, within-
 -- ---- the numbers that the search is for
 
 -- what holds of each number of a list holds of any that is among them
-pick : (T : ℕ → Type 0) (n : ℕ) (ks : List ℕ) → Each T ks → among n ks ≡ true → T n
+pub pick : (T : ℕ → Type 0) (n : ℕ) (ks : List ℕ) → Each T ks → among n ks ≡ true → T n
 pick T n [] e h = absurd (false≢true h)
 pick T n (k ∷ ks) e h = go (λ q. pick T n ks (e .1) q) (eqb n k) refl
   where
@@ -58,7 +59,9 @@ unfolding Ready
 schema-read n rs x ready p = go (ltb n 20) refl
   where
     go : (t : Bool) → ltb n 20 ≡ t → SchemaHeld (x .schema)
-    go true q = let r = (ready .0) p q in subst SchemaHeld (sym (r .held)) (schema-held (length (x .schema)) rs (r .long) (r .fits))
+    go true q =
+        let r = (ready .0) p q in
+        subst SchemaHeld (sym (r .held)) (schema-held (length (x .schema)) rs (r .long) (r .fits))
     go false q = (ready .1) p q .schema
 
 pub nodes-read : (rs : List Row) (x : Areas) → GraphReady rs x → NodesHeld (x .nodes)
@@ -85,19 +88,19 @@ one-counted k r rs h = rw h
 fewer : (k : ℕ) (ps rs : List Row) → counted k ps ≤ counted k (ps ++ rs)
 fewer k ps rs = omega (arith, counted-append k ps rs)
 
-module _ (n : ℕ) (s : List ℕ) (x : Areas) (at : ℕ) (c : Counts) (g : Going n s x at c) (h : at < length s) (r : Read) (e : r ≡ rowAt s at)
-    (ready : Ready n (rows s) x) where
+module _ {n : ℕ} {s : List ℕ} {x : Areas} {here : ℕ} {c : Counts} (g : Going n s x here c) (h : here < length s) {r : Read}
+    (e : r ≡ rowAt s here) (ready : Ready n (rows s) x) where
   abbrev now : Row
-  now = row (lineAt s at)
+  now = row (lineAt s here)
 
   abbrev rest : List Row
-  rest = rows (drop (nextAt s at) s)
+  rest = rows (drop (nextAt s here) s)
 
-  is-whole : r ≡ whole now (nextAt s at)
-  is-whole = read-here n s x at c g h r e
+  is-whole : r ≡ whole now (nextAt s here)
+  is-whole = read-here g h e
 
   all-rows : rows s ≡ g .ps ++ now ∷ rest
-  all-rows = rows-split n s x at c g h r e
+  all-rows = rows-split g h e
 
   letter-is : r .letter ≡ now .letter
   unfolding whole
@@ -120,8 +123,10 @@ module _ (n : ℕ) (s : List ℕ) (x : Areas) (at : ℕ) (c : Counts) (g : Going
 
   few-here : GraphReady (rows s) x → getD (r .nums) 3 0 ≤ 4
   few-here gr =
-      let k = each-there (λ q. Rattle.rules.specs.Text.at q 3 ≤ 4) (g .ps) now rest (subst (λ (l : List Row). Each (λ q. Rattle.rules.specs.Text.at q 3 ≤ 4) l) all-rows (gr .few)) in
-      let t : getD (r .nums) 3 0 ≡ Rattle.rules.specs.Text.at now 3 = ap (λ (l : List ℕ). getD l 3 0) nums-are ∙ padded-at 12 (now .numbers) 3 (omega arith) in
+      let each = subst (λ (l : List Row). Each (λ q. at q 3 ≤ 4) l) all-rows (gr .few) in
+      let k : at now 3 ≤ 4 = each-there (λ q. at q 3 ≤ 4) (g .ps) now rest each in
+      let t : getD (r .nums) 3 0 ≡ at now 3 =
+      ap (λ (l : List ℕ). getD l 3 0) nums-are ∙ padded-at 12 (now .numbers) 3 (omega arith) in
       omega arith
 
   -- this line is one more property than those before it
@@ -148,7 +153,7 @@ module _ (n : ℕ) (s : List ℕ) (x : Areas) (at : ℕ) (c : Counts) (g : Going
 
   within-small : length s ≤ 65535 → Within 65535 c
   within-small l =
-      let w = within-here n s x at c g h r e in
+      let w = within-here g h e in
       record {
         types = omega (arith, w .types);
         fields = omega (arith, w .fields);
@@ -193,7 +198,8 @@ module _ (n : ℕ) (s : List ℕ) (x : Areas) (at : ℕ) (c : Counts) (g : Going
       omega (arith, counted-within 9, properties-counted (rows s) x gr)
 
   -- of 13: the pair stands inside the schema's area
-  pair-within : SchemaReady (rows s) x → (j : ℕ) → j < pairCount c (r .letter) → (pairBase (r .letter) + 3 * j + 2 < length (x .schema)) × (j ≤ 1024)
+  pair-within : SchemaReady (rows s) x → (j : ℕ) → j < pairCount c (r .letter)
+      → (pairBase (r .letter) + 3 * j + 2 < length (x .schema)) × (j ≤ 1024)
   unfolding countsOf pairCount pairBase
   pair-within sr j k = go (eqb (r .letter) H) (eqb (r .letter) G) (eqb (r .letter) M) refl refl refl
     where
@@ -213,7 +219,9 @@ module _ (n : ℕ) (s : List ℕ) (x : Areas) (at : ℕ) (c : Counts) (g : Going
           → (pairBase (r .letter) + 3 * j + 2 < length (x .schema)) × (j ≤ 1024)
       go true b d p q w = let y : j < c .has = simp p at k in simp p (omega (arith, l, hc), omega (arith, hc))
       go false true d p q w = let y : j < c .takes = simp (p, q) at k in simp (p, q) (omega (arith, l, gc), omega (arith, gc))
-      go false false true p q w = let y : j < c .members = simp (p, q, w) at k in simp (p, q) (omega (arith, l, mc), omega (arith, mc))
+      go false false true p q w =
+          let y : j < c .members = simp (p, q, w) at k in
+          simp (p, q) (omega (arith, l, mc), omega (arith, mc))
       go false false false p q w = let y : j < 0 = simp (p, q, w) at k in absurd (omega arith)
 
   -- what a clash with the j-th earlier line asks, check by check
@@ -243,27 +251,38 @@ edge-limit : (b : Bool) (m j : ℕ) → j < cond b m 0 → j < m
 edge-limit true m j k = k
 edge-limit false m j k = absurd (omega arith)
 
-module _ (s : List ℕ) (x : Areas) (at : ℕ) (c : Counts) (r : Read) (h : at < length s) (e : r ≡ rowAt s at) (j : ℕ) where
-  datum-edge : j < cond (eqb (r .letter) E) (c .edges) (cond (eqb (r .letter) P) (c .properties) 0) → r .letter ≡ E → j < c .edges
-  datum-edge k q = simp (eq-eqb (r .letter) E q) at k
+module _ (x : Areas) (c : Counts) (r : Read) where
+  -- of 25 whether the line can clash, and the limit of 26
+  abbrev single : Bool
+  single =
+      let owner = (nodesAt (x .nodes) .typeOf) (getD (r .nums) 0 0) in
+      eqb (r .letter) E && not (isList (schemaAt (x .schema)) owner (fieldNo (getD (r .nums) 1 0)))
 
-  datum-property : j < cond (eqb (r .letter) E) (c .edges) (cond (eqb (r .letter) P) (c .properties) 0) → (r .letter ≡ E → ⊥) → j < c .properties
-  datum-property k q = edge-limit (eqb (r .letter) P) (c .properties) j (simp (ne-eqb (r .letter) E q) at k)
+  abbrev datum : ℕ
+  datum = cond (eqb (r .letter) E) (c .edges) (cond (eqb (r .letter) P) (c .properties) 0)
 
-  pub clashable : (n : ℕ) → Searched n → Going n s x at c → Ready n (rows s) x → j < limit n x c r → Clashable n x r j
-  unfolding limit Ready plainCheck
-  clashable n by-11 g ready k = absurd (omega arith)
-  clashable n by-12 g ready k = absurd (omega arith)
-  clashable n by-13 g ready k = clash-13 13 s x at c g h r e ready ((ready .0) refl refl) j k
-  clashable n by-14 g ready k = absurd (omega arith)
-  clashable n by-15 g ready k = absurd (omega arith)
-  clashable n by-21 g ready k = absurd (omega arith)
-  clashable n by-22 g ready k = absurd (omega arith)
-  clashable n by-23 g ready k = absurd (omega arith)
-  clashable n by-24 g ready k = absurd (omega arith)
-  clashable n by-25 g ready k =
-      clash-graph 25 s x at c g h r e ready 25 (λ q. omega arith) ((ready .1) refl refl) j (λ _. edge-limit (eqb (r .letter) E && not (isList (schemaAt (x .schema)) ((nodesAt (x .nodes) .typeOf) (getD (r .nums) 0 0)) (fieldNo (getD (r .nums) 1 0)))) (c .edges) j k) (λ no _. absurd (no refl))
-  clashable n by-26 g ready k =
-      clash-graph 26 s x at c g h r e ready 26 (λ q. omega arith) ((ready .1) refl refl) j
-      (elim [ inl q ↦ absurd (omega arith) | inr q ↦ datum-edge k q ]) (λ _ q. datum-property k q)
-  clashable n by-31 g ready k = absurd (omega arith)
+  datum-edge : (j : ℕ) → j < datum → r .letter ≡ E → j < c .edges
+  datum-edge j k q = simp (eq-eqb (r .letter) E q) at k
+
+  datum-property : (j : ℕ) → j < datum → (r .letter ≡ E → ⊥) → j < c .properties
+  datum-property j k q = edge-limit (eqb (r .letter) P) (c .properties) j (simp (ne-eqb (r .letter) E q) at k)
+
+pub clashable : {n : ℕ} {s : List ℕ} {x : Areas} {here : ℕ} {c : Counts} (g : Going n s x here c) → here < length s → {r : Read}
+    → r ≡ rowAt s here → Searched n → Ready n (rows s) x → (j : ℕ) → j < limit n x c r → Clashable n x r j
+unfolding limit Ready plainCheck
+clashable g h e by-11 ready j k = absurd (omega arith)
+clashable g h e by-12 ready j k = absurd (omega arith)
+clashable g h e by-13 ready j k = clash-13 g h e ready ((ready .0) refl refl) j k
+clashable g h e by-14 ready j k = absurd (omega arith)
+clashable g h e by-15 ready j k = absurd (omega arith)
+clashable g h e by-21 ready j k = absurd (omega arith)
+clashable g h e by-22 ready j k = absurd (omega arith)
+clashable g h e by-23 ready j k = absurd (omega arith)
+clashable g h e by-24 ready j k = absurd (omega arith)
+clashable {x = x} {c = c} g h {r} e by-25 ready j k =
+    clash-graph g h e ready 25 (λ q. omega arith) ((ready .1) refl refl) j
+    (λ _. edge-limit (single x c r) (c .edges) j k) (λ no _. absurd (no refl))
+clashable {x = x} {c = c} g h {r} e by-26 ready j k =
+    clash-graph g h e ready 26 (λ q. omega arith) ((ready .1) refl refl) j
+    (elim [ inl q ↦ absurd (omega arith) | inr q ↦ datum-edge x c r j k q ]) (λ _ q. datum-property x c r j k q)
+clashable g h e by-31 ready j k = absurd (omega arith)

@@ -15,7 +15,8 @@ use Rattle.tables.proofs.Laid.{laid-length}
 use Rattle.tables.proofs.Cells.{valuesBefore}
 use Rattle.tables.proofs.Wide.{wide-tag, wide-count, wide-number}
 use Rattle.tables.proofs.Labelling.{Formed, edge-labelled, property-labelled}
-use Rattle.tables.proofs.Areas.{values-before, each-split, node-length, node-count, edge-count, edges-stand, property-length, property-count, properties-stand}
+use Rattle.tables.proofs.Areas.{values-before, each-split, node-length, node-count, edge-count, edges-stand}
+use Rattle.tables.proofs.Areas.{property-length, property-count, properties-stand}
 use Rattle.tables.proofs.Views.{type-table, field-table, arg-table, has-table, takes-table, member-table, schema-length, schema-count}
 use Rattle.schema.specs.Held.{SchemaHeld}
 use Rattle.graph.specs.Held.{NodesHeld, PropertiesHeld}

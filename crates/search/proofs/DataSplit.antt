@@ -13,7 +13,8 @@ use Rattle.rules.specs.Lists.{those, keepIf, any, countUp}
 use Rattle.rules.specs.Text.{Row, noRow, at, E, P, valuesOf, fieldNo}
 use Rattle.rules.specs.Search.{_#_, testEach, worse, faultIf, faultOf, fault}
 use Rattle.rules.specs.Schema.{is, nth, isScalar, isList, inRange, listMark, fieldType, compatible}
-use Rattle.rules.specs.Graph.{Graph, Label, sameLabel, labelOf, source, target, starts, edgeOf, propertyOf, diverts, typeOf, check24, check25, check26}
+use Rattle.rules.specs.Graph.{Graph, Label, sameLabel, labelOf, source, target, starts, edgeOf, propertyOf, diverts, typeOf}
+use Rattle.rules.specs.Graph.{check24, check25, check26}
 use Rattle.rules.proofs.Clean.{Each}
 use Rattle.text.specs.Line.{padded}
 use Rattle.text.proofs.Tools.{by-test}
@@ -44,7 +45,10 @@ module _ (a g p v : List ℕ) (ps rs : List Row) (ns : List ℕ) where
   unfolding fault24E rowFor graphAt nodesAt fault-edge
   edge-24 =
       λ i. worse
-      (fault-edge (number-read (rowWith ns E) 0 (omega arith) i) (number-read (rowWith ns E) 1 (omega arith) i) (number-read (rowWith ns E) 2 (omega arith) i))
+      (fault-edge
+      (number-read (rowWith ns E) 0 (omega arith) i)
+      (number-read (rowWith ns E) 1 (omega arith) i)
+      (number-read (rowWith ns E) 2 (omega arith) i))
       none
 
   fault-property : ℕ → ℕ → ℕ → ℕ → List ℕ → Option ℕ
@@ -59,7 +63,8 @@ module _ (a g p v : List ℕ) (ps rs : List Row) (ns : List ℕ) where
       → fault (check24 (schemaAt a) (graphAt g p v) (reverse ps) (rowWith ns P) rs) ≡ fault24P a g (padded 12 ns) xs
   unfolding fault24P rowFor graphAt nodesAt fault-property
   property-24 xs e =
-      worse-none (fault-property (at (rowWith ns P) 0) (at (rowWith ns P) 1) (at (rowWith ns P) 2) (at (rowWith ns P) 3) (valuesOf (rowWith ns P)))
+      let r = rowWith ns P in
+      worse-none (fault-property (at r 0) (at r 1) (at r 2) (at r 3) (valuesOf r))
       ∙ (λ i. fault-property
       (number-read (rowWith ns P) 0 (omega arith) i)
       (number-read (rowWith ns P) 1 (omega arith) i)
@@ -72,7 +77,7 @@ module _ (a g p v : List ℕ) (ps rs : List Row) (ns : List ℕ) where
   other-24 l e f = rw (e, f)
 
 -- the property behind those of the first lines
-pub next-property : (ps : List Row) (r : Row) (rs : List Row) → is P r ≡ true
+next-property : (ps : List Row) (r : Row) (rs : List Row) → is P r ≡ true
     → (counted 9 ps < length (those (is P) (ps ++ r ∷ rs))) × (nth (is P) (ps ++ r ∷ rs) (counted 9 ps) ≡ r)
 unfolding counted belongs
 next-property ps r rs e =
@@ -100,8 +105,8 @@ any-limit f true n = refl
 any-limit f false n = refl
 
 -- one of two kinds of line, each with its own earlier lines
-twin-groups : (b c X Y : Bool) (f g : ℕ → Bool) (m n : ℕ) → (b ≡ true → X ≡ any f (countUp 0 m)) → (c ≡ true → Y ≡ any g (countUp 0 n))
-    → (b ≡ true → c ≡ false)
+twin-groups : (b c X Y : Bool) (f g : ℕ → Bool) (m n : ℕ) → (b ≡ true → X ≡ any f (countUp 0 m))
+    → (c ≡ true → Y ≡ any g (countUp 0 n)) → (b ≡ true → c ≡ false)
     → worse (grouped b ((0 # X) ∷ [])) (worse (grouped c ((0 # Y) ∷ [])) none)
     ≡ faultIf (any (λ j. cond b (f j) (g j)) (countUp 0 (cond b m (cond c n 0)))) 0
 twin-groups true c X Y f g m n p q s =
@@ -188,10 +193,13 @@ module _ (x : Areas) (ps : List Row) (r : Row) (rs : List Row) (ready : GraphRea
       0
   unfolding graphAt nodesAt
   split-25 =
+      let can = single x r (getD (nums r) 0 0) (getD (nums r) 1 0) in
       one-group (single x r (at r 0) (at r 1)) (any (diverts r) (reverse ps)) 0
-      ∙ ap₂ (λ (u f : ℕ). faultIf (single x r u f && any (diverts r) (reverse ps)) 0) (number-read r 0 (omega arith)) (number-read r 1 (omega arith))
-      ∙ ap (λ (b : Bool). faultIf (single x r (getD (nums r) 0 0) (getD (nums r) 1 0) && b) 0) diverts-read
-      ∙ ap (λ (b : Bool). faultIf b 0) (any-limit (divertsAt (x .nodes) (nums r)) (single x r (getD (nums r) 0 0) (getD (nums r) 1 0)) (counted 8 ps))
+      ∙ ap₂ (λ (u f : ℕ). faultIf (single x r u f && any (diverts r) (reverse ps)) 0)
+      (number-read r 0 (omega arith))
+      (number-read r 1 (omega arith))
+      ∙ ap (λ (b : Bool). faultIf (can && b) 0) diverts-read
+      ∙ ap (λ (b : Bool). faultIf b 0) (any-limit (divertsAt (x .nodes) (nums r)) can (counted 8 ps))
 
   edge-twin : is E r ≡ true
       → any (λ e. edgeOf (source r) (labelOf r) e && eqb (target e) (target r)) (reverse ps)

@@ -20,7 +20,8 @@ use Rattle.schema.specs.Faults.{fault12, fault14, fault15}
 use Rattle.graph.specs.Held.{NodesHeld, PropertiesHeld}
 use Rattle.graph.specs.Faults.{nodesAt, fault22, fault23, fault24E, fault24P, divertsAt, twinEdge, twinProperty}
 use Rattle.search.specs.declared.Counts.{Counts}
-use Rattle.search.specs.Search.{areas, plainCheck, alone, alone11, alone21, alone24, alone31, pairBase, pairCount, limit, clash, GraphTestable, Testable, Clashable}
+use Rattle.search.specs.Search.{areas, plainCheck, alone, alone11, alone21, alone24, alone31, pairBase, pairCount, limit, clash}
+use Rattle.search.specs.Search.{GraphTestable, Testable, Clashable}
 
 module _ (n : ℕ) (a g p v : List ℕ) (c : Counts) (r : Read) where
   -- ---- a line alone
@@ -196,21 +197,25 @@ module _ (n : ℕ) (a g p v : List ℕ) (r : Read) (j : ℕ) where
   abbrev Clashes : Bool → Type 0
   Clashes b = b ≡ clash n (areas a g p v) r j
 
+  -- whether the j-th pair that stands from a base on is the line's
+  abbrev Paired : ℕ → Bool → Type 0
+  Paired base b = b ≡ pairAt a base (getD (r .nums) 0 0) (getD (r .nums) 1 0) j
+
   module _ (is13 : n ≡ 13) where
     -- the pairs of a letter, by where they stand
-    paired : (b : Bool) (base : ℕ) → pairBase (r .letter) ≡ base → b ≡ pairAt a base (getD (r .nums) 0 0) (getD (r .nums) 1 0) j → Clashes b
+    paired : (b : Bool) (base : ℕ) → pairBase (r .letter) ≡ base → Paired base b → Clashes b
     unfolding clash areas
     paired b base e h = h ∙ rw (is13, e)
 
-    pub clash-has : (b : Bool) → r .letter ≡ H → b ≡ pairAt a 776 (getD (r .nums) 0 0) (getD (r .nums) 1 0) j → Clashes b
+    pub clash-has : (b : Bool) → r .letter ≡ H → Paired 776 b → Clashes b
     unfolding pairBase
     clash-has b l h = paired b 776 (rw (eq-eqb (r .letter) H l)) h
 
-    pub clash-takes : (b : Bool) → (r .letter ≡ H → ⊥) → r .letter ≡ G → b ≡ pairAt a 3848 (getD (r .nums) 0 0) (getD (r .nums) 1 0) j → Clashes b
+    pub clash-takes : (b : Bool) → (r .letter ≡ H → ⊥) → r .letter ≡ G → Paired 3848 b → Clashes b
     unfolding pairBase
     clash-takes b k l h = paired b 3848 (rw (ne-eqb (r .letter) H k, eq-eqb (r .letter) G l)) h
 
-    pub clash-members : (b : Bool) → (r .letter ≡ H → ⊥) → (r .letter ≡ G → ⊥) → b ≡ pairAt a 6920 (getD (r .nums) 0 0) (getD (r .nums) 1 0) j → Clashes b
+    pub clash-members : (b : Bool) → (r .letter ≡ H → ⊥) → (r .letter ≡ G → ⊥) → Paired 6920 b → Clashes b
     unfolding pairBase
     clash-members b k l h = paired b 6920 (rw (ne-eqb (r .letter) H k, ne-eqb (r .letter) G l)) h
 

@@ -36,7 +36,7 @@ module _ (r : Row) where
   pub number-read : (i : ℕ) → i < 12 → at r i ≡ getD (nums r) i 0
   number-read i h = sym (padded-at 12 (r .numbers) i h)
 
-  pub pairs-read : Labelled r → pairsOf r ≡ pairs (getD (nums r) 3 0) (drop 4 (nums r))
+  pairs-read : Labelled r → pairsOf r ≡ pairs (getD (nums r) 3 0) (drop 4 (nums r))
   pairs-read l =
       let ns = r .numbers in
       let room : 2 * at r 3 ≤ length (drop 4 ns) = simp length-drop (omega (arith, l .long)) in
@@ -49,7 +49,7 @@ module _ (r : Row) where
   label-read l = λ i. record { field = fieldNo (number-read 1 (omega arith) i); args = pairs-read l i }
 
 -- an edge or a property has its pairs
-pub datum-labelled : (r : Row) → Formed r → isDatum r ≡ true → Labelled r
+datum-labelled : (r : Row) → Formed r → isDatum r ≡ true → Labelled r
 datum-labelled r f h = by-test (is E r) (f .0) (λ e. f .1 (rw e at h))
 
 -- ---- 22 and 23

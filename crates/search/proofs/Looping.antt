@@ -1,17 +1,16 @@
 -- Going through the lines of a text: what is left, and what one turn of the search does. Assumes nothing.
-use Prim.Native.Nat.{ℕ, zero, suc, _+_, _*_, _≤_, _<_}
+use Prim.Native.Nat.{ℕ, zero, suc, _+_, _≤_, _<_}
 use native.Mathlib.Numerals.{add-one}
 use native.Mathlib.Omega.{arith}
 use mathlib.Core.Path.{_≡_, refl, sym, ap, ap₂, _∙_, subst}
 use mathlib.Core.Bool.{Bool, true, false}
-use mathlib.Core.List.{List, [], _∷_, _++_, map, reverse, append-nil, append-assoc, reverse-append}
+use mathlib.Core.List.{List, [], _∷_, _++_, map, reverse, append-assoc, reverse-append}
 use mathlib.Core.Option.{Option, none, some}
-use lib.ListN.{length, drop, getD, length-append, drop-of-length-le}
+use lib.ListN.{length, drop, getD, length-append}
 use Rattle.rules.specs.Lists.{any, countUp}
 use Rattle.rules.specs.Text.{Line, Row, row, rows, lines}
 use Rattle.rules.specs.Search.{worse, faultIf, fault, Check, firstFrom, firstLine, spot, spotOr, asFault}
 use Rattle.rules.specs.declared.Spot.{Spot}
-use Rattle.rules.specs.declared.Fault.{Fault}
 use Rattle.rules.specs.declared.Fault.the-variants.{Fine, Field}
 use Rattle.rules.proofs.Clean.{Each}
 use Rattle.text.specs.declared.Row.{Row as Read}
@@ -42,30 +41,39 @@ worse-zero f false = refl
 worse-zero zero true = refl
 worse-zero (suc f) true = refl
 
-module _ (n : ℕ) (s : List ℕ) (x : Areas) where
-  abbrev chk : Check Row
-  chk = checkBy n (schemaAt (x .schema)) (graphIn x)
+-- the check with a number under what the areas hold, and where it is first offended, as the code answers it
+abbrev chk : ℕ → Areas → Check Row
+chk n x = checkBy n (schemaAt (x .schema)) (graphIn x)
 
+abbrev first : ℕ → List ℕ → Areas → Spot
+first n s x = spotOr (firstLine (chk n x) (rows s))
+
+module _ (n : ℕ) (s : List ℕ) (x : Areas) where
   -- The rows ps have been passed, c counts them, and the search goes on at `at`.
   pub record Going (at : ℕ) (c : Counts) : Type 0 where
     pub ps : List Row
     pub split : rows s ≡ ps ++ rows (drop at s)
     pub counts : c ≡ countsOf ps
-    pub left : firstLine chk (rows s) ≡ firstFrom chk (reverse ps) (suc (length ps)) (rows (drop at s))
+    pub left : firstLine (chk n x) (rows s) ≡ firstFrom (chk n x) (reverse ps) (suc (length ps)) (rows (drop at s))
     pub plain : Each Plain (lines (drop at s))
     pub inside : at ≤ length s
 
   pub going-start : Each Plain (lines s) → Going 0 (countsOf [])
   going-start p = record { ps = []; split = refl; counts = refl; left = refl; plain = p; inside = omega arith }
 
-  pub going-ended : (at : ℕ) (c : Counts) → Going at c → length s ≤ at → spot 0 0 ≡ spotOr (firstLine chk (rows s))
-  going-ended at c g h =
+module _ {n : ℕ} {s : List ℕ} {x : Areas} {at : ℕ} {c : Counts} (g : Going n s x at c) where
+  -- what the search says of rows that stand behind those passed
+  abbrev from : List Row → Option Spot
+  from rs = firstFrom (chk n x) (reverse (g .ps)) (suc (length (g .ps))) rs
+
+  pub going-ended : length s ≤ at → spot 0 0 ≡ first n s x
+  going-ended h =
       let e : rows (drop at s) ≡ [] = ap (map row) (lines-end s at h) in
-      sym (ap spotOr (g .left ∙ ap (firstFrom chk (reverse (g .ps)) (suc (length (g .ps)))) e))
+      sym (ap spotOr (g .left ∙ ap from e))
 
   -- ---- at a line
 
-  module _ (at : ℕ) (c : Counts) (g : Going at c) (h : at < length s) (r : Read) (e : r ≡ rowAt s at) where
+  module _ (h : at < length s) {r : Read} (e : r ≡ rowAt s at) where
     abbrev now : Row
     now = row (lineAt s at)
 
@@ -86,15 +94,15 @@ module _ (n : ℕ) (s : List ℕ) (x : Areas) where
     pub rows-split : rows s ≡ g .ps ++ now ∷ rest
     rows-split = g .split ∙ ap (λ (l : List Row). g .ps ++ l) rows-here
 
-    pub next-is : r .next ≡ nextAt s at
+    next-is : r .next ≡ nextAt s at
     unfolding whole
     next-is = ap (λ (q : Read). q .next) read-here
 
     pub next-further : (at < r .next) × (r .next ≤ length s)
     next-further = let w = next-inside s at h in let e = next-is in (omega (arith, w .0), omega (arith, w .1))
 
-    left-here : firstLine chk (rows s) ≡ firstFrom chk (reverse (g .ps)) (suc (length (g .ps))) (now ∷ rest)
-    left-here = g .left ∙ ap (firstFrom chk (reverse (g .ps)) (suc (length (g .ps)))) rows-here
+    left-here : firstLine (chk n x) (rows s) ≡ from (now ∷ rest)
+    left-here = g .left ∙ ap from rows-here
 
     lines-counted : c .lines ≡ length (g .ps)
     unfolding countsOf
@@ -104,11 +112,13 @@ module _ (n : ℕ) (s : List ℕ) (x : Areas) where
     within-here = subst (Within (length s)) (sym (g .counts)) (counts-within s (g .ps) (rows (drop at s)) (g .split))
 
     -- the counts with this line
-    counts-here : (v : ℕ) → v ≡ valuesIn (r .letter) (r .count) (getD (r .nums) 3 0) → countsWith c (r .letter) v ≡ countsOf (g .ps ++ (now ∷ []))
+    counts-here : (v : ℕ) → v ≡ valuesIn (r .letter) (r .count) (getD (r .nums) 3 0)
+        → countsWith c (r .letter) v ≡ countsOf (g .ps ++ (now ∷ []))
     unfolding whole
     counts-here v ve =
         let vs : v ≡ valued now =
-        ve ∙ ap (λ (q : Read). valuesIn (q .letter) (q .count) (getD (q .nums) 3 0)) read-here
+        ve
+        ∙ ap (λ (q : Read). valuesIn (q .letter) (q .count) (getD (q .nums) 3 0)) read-here
         ∙ ap (λ (k : ℕ). valuesIn (now .letter) (length (now .numbers)) k) (padded-at 12 (now .numbers) 3 (omega arith))
         ∙ sym (valued-read now) in
         ap₂ (λ (q : Counts) (k : ℕ). countsWith q (r .letter) k) (g .counts) vs
@@ -117,48 +127,58 @@ module _ (n : ℕ) (s : List ℕ) (x : Areas) where
 
     module _ (searched : Searched n) (ready : Ready n (rows s) x) where
       -- what the check says of the line: of the line alone, and of the line and the earlier ones
-      fault-here : fault (chk (reverse (g .ps)) now rest) ≡ worse (alone n x c r) (faultIf (any (clash n x r) (countUp 0 (limit n x c r))) 0)
+      abbrev said : Option ℕ
+      said = fault (chk n x (reverse (g .ps)) now rest)
+
+      abbrev clashed : Bool
+      clashed = any (clash n x r) (countUp 0 (limit n x c r))
+
+      fault-here : said ≡ worse (alone n x c r) (faultIf clashed 0)
       fault-here =
           splits n searched x (g .ps) now rest (nextAt s at) (subst (λ (l : List Row). Ready n l x) rows-split ready)
           ∙ ap₂ (λ (q : Counts) (w : Read). worse (alone n x q w) (faultIf (any (clash n x w) (countUp 0 (limit n x q w))) 0))
           (sym (g .counts)) (sym read-here)
 
-      found-at : (f : ℕ) → fault (chk (reverse (g .ps)) now rest) ≡ some f → spot (c .lines + 1) f ≡ spotOr (firstLine chk (rows s))
+      found-at : (f : ℕ) → said ≡ some f → spot (c .lines + 1) f ≡ first n s x
       found-at f q =
-          let one : firstFrom chk (reverse (g .ps)) (suc (length (g .ps))) (now ∷ rest) ≡ some (spot (suc (length (g .ps))) f) = rw (q, firstFrom) in
+          let one : from (now ∷ rest) ≡ some (spot (suc (length (g .ps))) f) = rw (q, firstFrom) in
           ap (λ (k : ℕ). spot k f) (add-one (c .lines) ∙ ap suc lines-counted) ∙ sym (ap spotOr (left-here ∙ one))
 
       -- the line alone is at fault
-      pub found-alone : (f : ℕ) → Field f ≡ asFault (alone n x c r) → spot (c .lines + 1) f ≡ spotOr (firstLine chk (rows s))
-      found-alone f q =
+      pub found-alone : {f : ℕ} → Field f ≡ asFault (alone n x c r) → spot (c .lines + 1) f ≡ first n s x
+      found-alone {f} q =
           let a = as-field (alone n x c r) f q in
-          found-at f (fault-here ∙ ap (λ (o : Option ℕ). worse o (faultIf (any (clash n x r) (countUp 0 (limit n x c r))) 0)) a ∙ worse-zero f (any (clash n x r) (countUp 0 (limit n x c r))))
+          found-at f (fault-here ∙ ap (λ (o : Option ℕ). worse o (faultIf clashed 0)) a ∙ worse-zero f clashed)
 
-      -- it clashes with an earlier one
-      pub found-clash : (k : ℕ) → k ≡ limit n x c r → Fine ≡ asFault (alone n x c r) → any (clash n x r) (countUp 0 k) ≡ true
-          → spot (c .lines + 1) 0 ≡ spotOr (firstLine chk (rows s))
-      found-clash k m q b =
-          let a = as-fine (alone n x c r) q in
-          let b′ = subst (λ (z : ℕ). any (clash n x r) (countUp 0 z) ≡ true) m b in
-          found-at 0 (fault-here ∙ ap₂ (λ (o : Option ℕ) (t : Bool). worse o (faultIf t 0)) a b′)
+      -- it is not, and k earlier lines can clash with it
+      module _ {k : ℕ} (m : k ≡ limit n x c r) (fine : Fine ≡ asFault (alone n x c r)) where
+        fault-clash : (b : Bool) → any (clash n x r) (countUp 0 k) ≡ b → said ≡ faultIf b 0
+        fault-clash b q =
+            fault-here
+            ∙ ap₂ (λ (o : Option ℕ) (t : Bool). worse o (faultIf t 0)) (as-fine (alone n x c r) fine)
+            (subst (λ (z : ℕ). any (clash n x r) (countUp 0 z) ≡ b) m q)
 
-      -- neither
-      pub going-on : (k : ℕ) → k ≡ limit n x c r → Fine ≡ asFault (alone n x c r) → any (clash n x r) (countUp 0 k) ≡ false
-          → (v : ℕ) → v ≡ valuesIn (r .letter) (r .count) (getD (r .nums) 3 0) → Going (r .next) (countsWith c (r .letter) v)
-      going-on k m q b v ve =
-          let b′ = subst (λ (z : ℕ). any (clash n x r) (countUp 0 z) ≡ false) m b in
-          let a = as-fine (alone n x c r) q in
-          let ok : fault (chk (reverse (g .ps)) now rest) ≡ none = fault-here ∙ ap₂ (λ (o : Option ℕ) (t : Bool). worse o (faultIf t 0)) a b′ in
-          let on : firstFrom chk (reverse (g .ps)) (suc (length (g .ps))) (now ∷ rest) ≡ firstFrom chk (now ∷ reverse (g .ps)) (suc (suc (length (g .ps)))) rest = rw (ok, firstFrom) in
-          subst (λ (k : ℕ). Going k (countsWith c (r .letter) v)) (sym next-is)
-          (record {
-            ps = g .ps ++ (now ∷ []);
-            split = rows-split ∙ sym (append-assoc (g .ps) (now ∷ []) rest);
-            counts = counts-here v ve;
-            left = left-here ∙ on ∙ ap₂ (λ (l : List Row) (k : ℕ). firstFrom chk l k rest) (sym (reverse-append (g .ps) (now ∷ []))) more;
-            plain = plain-here .1;
-            inside = next-inside s at h .1;
-          })
-        where
-          more : suc (suc (length (g .ps))) ≡ suc (length (g .ps ++ (now ∷ [])))
-          more = let l = length-append (g .ps) (now ∷ []) in omega arith
+        -- one of them does
+        pub found-clash : any (clash n x r) (countUp 0 k) ≡ true → spot (c .lines + 1) 0 ≡ first n s x
+        found-clash q = found-at 0 (fault-clash true q)
+
+        -- none does
+        pub going-on : any (clash n x r) (countUp 0 k) ≡ false → {v : ℕ} → v ≡ valuesIn (r .letter) (r .count) (getD (r .nums) 3 0)
+            → Going n s x (r .next) (countsWith c (r .letter) v)
+        going-on q {v} ve =
+            let ok : said ≡ none = fault-clash false q in
+            let later = suc (suc (length (g .ps))) in
+            let on : from (now ∷ rest) ≡ firstFrom (chk n x) (now ∷ reverse (g .ps)) later rest = rw (ok, firstFrom) in
+            let turned = sym (reverse-append (g .ps) (now ∷ [])) in
+            subst (λ (z : ℕ). Going n s x z (countsWith c (r .letter) v)) (sym next-is)
+            (record {
+              ps = g .ps ++ (now ∷ []);
+              split = rows-split ∙ sym (append-assoc (g .ps) (now ∷ []) rest);
+              counts = counts-here v ve;
+              left = left-here ∙ on ∙ ap₂ (λ (l : List Row) (z : ℕ). firstFrom (chk n x) l z rest) turned more;
+              plain = plain-here .1;
+              inside = next-inside s at h .1;
+            })
+          where
+            more : suc (suc (length (g .ps))) ≡ suc (length (g .ps ++ (now ∷ [])))
+            more = let l = length-append (g .ps) (now ∷ []) in omega arith

@@ -29,11 +29,11 @@ module _ {A : Type 0} where
   sum-turned g [] ys = omega arith
   sum-turned g (x ∷ xs) ys = sum-turned g xs (x ∷ ys) ∙ omega arith
 
-  pub sum-reverse : (g : A → ℕ) (xs : List A) → sumOf g (reverse xs) ≡ sumOf g xs
+  sum-reverse : (g : A → ℕ) (xs : List A) → sumOf g (reverse xs) ≡ sumOf g xs
   sum-reverse g xs = sum-turned g xs [] ∙ omega arith
 
   -- a sum over those that pass a test
-  pub sum-those : (p : A → Bool) (g : A → ℕ) (xs : List A) → sumOf g (those p xs) ≡ sumOf (λ x. cond (p x) (g x) 0) xs
+  sum-those : (p : A → Bool) (g : A → ℕ) (xs : List A) → sumOf g (those p xs) ≡ sumOf (λ x. cond (p x) (g x) 0) xs
   sum-those p g [] = refl
   sum-those p g (x ∷ xs) = go (sum-those p g xs) (p x)
     where
@@ -46,7 +46,8 @@ module _ {A : Type 0} where
 
 module _ (ps : List Row) (r : Row) (rs : List Row) where
   -- a maximum: as many rows of table k before the line as there may be
-  full-split : (k n : ℕ) → grouped (belongs k r) ((0 # leb n (length (those (belongs k) (reverse ps)))) ∷ []) ≡ full k n (counted k ps) (r .letter)
+  full-split : (k n : ℕ)
+      → grouped (belongs k r) ((0 # leb n (length (those (belongs k) (reverse ps)))) ∷ []) ≡ full k n (counted k ps) (r .letter)
   unfolding full counted belongs lettered
   full-split k n =
       one-test (belongs k r) (leb n (length (those (belongs k) (reverse ps)))) 0
@@ -67,14 +68,16 @@ module _ (ps : List Row) (r : Row) (rs : List Row) where
   values-split = sum-those (is P) (λ p. length (valuesOf p)) (reverse ps) ∙ sum-reverse valued ps
 
   most-split : (b : Bool) (v : ℕ)
-      → (b && ltb 8192 (length (valuesOf r) + v)) ≡ (b && ltb 8192 (cond b (length (r .numbers) - (4 + 2 * getD (padded 12 (r .numbers)) 3 0)) 0 + v))
+      → (b && ltb 8192 (length (valuesOf r) + v))
+      ≡ (b && ltb 8192 (cond b (length (r .numbers) - (4 + 2 * getD (padded 12 (r .numbers)) 3 0)) 0 + v))
   most-split true v =
       ap (λ (n : ℕ). ltb 8192 (n + v))
       (length-drop (4 + 2 * at r 3) (r .numbers)
       ∙ ap (λ (n : ℕ). length (r .numbers) - (4 + 2 * n)) (sym (padded-at 12 (r .numbers) 3 (omega arith))))
   most-split false v = refl
 
-  pub split-21 : fault (check21 (reverse ps) r rs) ≡ alone21 (countsOf ps) (r .letter) (length (r .numbers)) (getD (padded 12 (r .numbers)) 3 0)
+  pub split-21 : fault (check21 (reverse ps) r rs)
+      ≡ alone21 (countsOf ps) (r .letter) (length (r .numbers)) (getD (padded 12 (r .numbers)) 3 0)
   unfolding alone21 countsOf belongs valuesIn
   split-21 =
       ap₂ worse (full-split 7 512)

@@ -1,15 +1,14 @@
 -- The checks of a line and the counts alone: 11, 21 and 31. Assumes nothing.
 use Prim.Native.Nat.{ℕ, _+_, _*_, _-_, _≤_, _<_}
 use native.Mathlib.Omega.{arith}
-use mathlib.Core.Path.{_≡_, refl, sym, ap, ap₂, _∙_}
+use mathlib.Core.Path.{_≡_, refl, sym, ap, _∙_}
 use mathlib.Core.Bool.{Bool, true, false, _&&_, _||_, cond}
-use mathlib.Core.Option.{Option, none, some}
+use mathlib.Core.Option.{Option}
 use lib.Dec.{leb, ltb, eqb}
 use borrow.Author.Tests.{lt-ltb, le-ltb, le-leb, lt-leb, eq-eqb, ne-eqb}
 use Rattle.rules.specs.Lists.{oneIf}
 use Rattle.rules.specs.Text.{P}
 use Rattle.rules.specs.Search.{worse, faultIf, asFault}
-use Rattle.rules.specs.declared.Fault.{Fault}
 use Rattle.rules.specs.declared.Fault.the-variants.{Fine, Field}
 use Rattle.tables.specs.Layout.{belongs}
 use Rattle.tables.specs.Fill.{lettered, valuesIn}
@@ -84,7 +83,7 @@ eleven c l =
     || (passes 3 64 (c .args) l
     || (passes 4 1024 (c .has) l || (passes 5 1024 (c .takes) l || passes 6 1024 (c .members) l))))
 
-pub alone-eleven : (c : Counts) (l : ℕ) → alone11 c l ≡ faultIf (eleven c l) 0
+alone-eleven : (c : Counts) (l : ℕ) → alone11 c l ≡ faultIf (eleven c l) 0
 unfolding alone11 full
 alone-eleven c l =
     let p1 = passes 1 64 (c .types) l in
@@ -93,30 +92,34 @@ alone-eleven c l =
     let p4 = passes 4 1024 (c .has) l in
     let p5 = passes 5 1024 (c .takes) l in
     let p6 = passes 6 1024 (c .members) l in
-    ap (λ (o : Option ℕ). worse (faultIf p1 0) (worse (faultIf p2 0) (worse (faultIf p3 0) (worse (faultIf p4 0) o)))) (whole-line p5 p6)
-    ∙ ap (λ (o : Option ℕ). worse (faultIf p1 0) (worse (faultIf p2 0) (worse (faultIf p3 0) o))) (whole-line p4 (p5 || p6))
-    ∙ ap (λ (o : Option ℕ). worse (faultIf p1 0) (worse (faultIf p2 0) o)) (whole-line p3 (p4 || (p5 || p6)))
-    ∙ ap (λ (o : Option ℕ). worse (faultIf p1 0) o) (whole-line p2 (p3 || (p4 || (p5 || p6))))
+    let behind1 : Option ℕ → Option ℕ = λ o. worse (faultIf p1 0) o in
+    let behind2 : Option ℕ → Option ℕ = λ o. behind1 (worse (faultIf p2 0) o) in
+    let behind3 : Option ℕ → Option ℕ = λ o. behind2 (worse (faultIf p3 0) o) in
+    ap (λ (o : Option ℕ). behind3 (worse (faultIf p4 0) o)) (whole-line p5 p6)
+    ∙ ap behind3 (whole-line p4 (p5 || p6))
+    ∙ ap behind2 (whole-line p3 (p4 || (p5 || p6)))
+    ∙ ap behind1 (whole-line p2 (p3 || (p4 || (p5 || p6))))
     ∙ whole-line p1 (p2 || (p3 || (p4 || (p5 || p6))))
 
 -- a chain of tests that are not passed, up to one that is
-pub or-here : (a b : Bool) → a ≡ true → (a || b) ≡ true
+or-here : (a b : Bool) → a ≡ true → (a || b) ≡ true
 or-here a b h = rw h
 
-pub or-on : (a b : Bool) → a ≡ false → b ≡ true → (a || b) ≡ true
+or-on : (a b : Bool) → a ≡ false → b ≡ true → (a || b) ≡ true
 or-on a b h k = rw h k
 
-pub or-none : (a b : Bool) → a ≡ false → b ≡ false → (a || b) ≡ false
+or-none : (a b : Bool) → a ≡ false → b ≡ false → (a || b) ≡ false
 or-none a b h k = rw h k
 
-pub fault-passes : (o : Option ℕ) (b : Bool) → o ≡ faultIf b 0 → b ≡ true → Field 0 ≡ asFault o
+fault-passes : (o : Option ℕ) (b : Bool) → o ≡ faultIf b 0 → b ≡ true → Field 0 ≡ asFault o
 fault-passes o b e h = sym (ap asFault (e ∙ ap (λ (t : Bool). faultIf t 0) h))
 
-pub fault-none : (o : Option ℕ) (b : Bool) → o ≡ faultIf b 0 → b ≡ false → Fine ≡ asFault o
+fault-none : (o : Option ℕ) (b : Bool) → o ≡ faultIf b 0 → b ≡ false → Fine ≡ asFault o
 fault-none o b e h = sym (ap asFault (e ∙ ap (λ (t : Bool). faultIf t 0) h))
 
 -- whether a maximum is passed, as the code tests it
-pub full-test : (k most count l : ℕ) (b t : Bool) → b ≡ belongs k (lettered l) → b ≡ true → t ≡ leb most count → t ≡ passes k most count l
+pub full-test : (k most count l : ℕ) (b t : Bool) → b ≡ belongs k (lettered l) → b ≡ true → t ≡ leb most count
+    → t ≡ passes k most count l
 full-test k most count l b t e h q = q ∙ rw (sym e ∙ h)
 
 pub not-full : (k most count l : ℕ) (b : Bool) → b ≡ belongs k (lettered l) → b ≡ false → false ≡ passes k most count l
@@ -142,42 +145,45 @@ module _ (c : Counts) (l : ℕ) (b1 b2 b3 b4 b5 b6 : Bool) where
   abbrev q6 : Bool
   q6 = passes 6 1024 (c .members) l
 
-  pub eleven-1 : b1 ≡ q1 → b1 ≡ true → Field 0 ≡ asFault (alone11 c l)
-  eleven-1 e1 h1 = fault-passes (alone11 c l) (eleven c l) (alone-eleven c l) (or-here q1 _ (sym e1 ∙ h1))
+  at-11 : eleven c l ≡ true → Field 0 ≡ asFault (alone11 c l)
+  at-11 h = fault-passes (alone11 c l) (eleven c l) (alone-eleven c l) h
+
+  pub types-passed : b1 ≡ q1 → b1 ≡ true → Field 0 ≡ asFault (alone11 c l)
+  types-passed e1 h1 = at-11 (or-here q1 _ (sym e1 ∙ h1))
 
   module _ (e1 : b1 ≡ q1) (h1 : b1 ≡ false) where
-    pub eleven-2 : b2 ≡ q2 → b2 ≡ true → Field 0 ≡ asFault (alone11 c l)
-    eleven-2 e2 h2 = fault-passes (alone11 c l) (eleven c l) (alone-eleven c l) (or-on q1 _ (sym e1 ∙ h1) (or-here q2 _ (sym e2 ∙ h2)))
+    pub fields-passed : b2 ≡ q2 → b2 ≡ true → Field 0 ≡ asFault (alone11 c l)
+    fields-passed e2 h2 = at-11 (or-on q1 _ (sym e1 ∙ h1) (or-here q2 _ (sym e2 ∙ h2)))
 
     module _ (e2 : b2 ≡ q2) (h2 : b2 ≡ false) where
-      pub eleven-3 : b3 ≡ q3 → b3 ≡ true → Field 0 ≡ asFault (alone11 c l)
-      eleven-3 e3 h3 =
-          fault-passes (alone11 c l) (eleven c l) (alone-eleven c l)
+      pub args-passed : b3 ≡ q3 → b3 ≡ true → Field 0 ≡ asFault (alone11 c l)
+      args-passed e3 h3 =
+          at-11
           (or-on q1 _ (sym e1 ∙ h1) (or-on q2 _ (sym e2 ∙ h2) (or-here q3 _ (sym e3 ∙ h3))))
 
       module _ (e3 : b3 ≡ q3) (h3 : b3 ≡ false) where
-        pub eleven-4 : b4 ≡ q4 → b4 ≡ true → Field 0 ≡ asFault (alone11 c l)
-        eleven-4 e4 h4 =
-            fault-passes (alone11 c l) (eleven c l) (alone-eleven c l)
+        pub has-passed : b4 ≡ q4 → b4 ≡ true → Field 0 ≡ asFault (alone11 c l)
+        has-passed e4 h4 =
+            at-11
             (or-on q1 _ (sym e1 ∙ h1) (or-on q2 _ (sym e2 ∙ h2) (or-on q3 _ (sym e3 ∙ h3) (or-here q4 _ (sym e4 ∙ h4)))))
 
         module _ (e4 : b4 ≡ q4) (h4 : b4 ≡ false) where
-          pub eleven-5 : b5 ≡ q5 → b5 ≡ true → Field 0 ≡ asFault (alone11 c l)
-          eleven-5 e5 h5 =
-              fault-passes (alone11 c l) (eleven c l) (alone-eleven c l)
+          pub takes-passed : b5 ≡ q5 → b5 ≡ true → Field 0 ≡ asFault (alone11 c l)
+          takes-passed e5 h5 =
+              at-11
               (or-on q1 _ (sym e1 ∙ h1)
               (or-on q2 _ (sym e2 ∙ h2) (or-on q3 _ (sym e3 ∙ h3) (or-on q4 _ (sym e4 ∙ h4) (or-here q5 _ (sym e5 ∙ h5))))))
 
           module _ (e5 : b5 ≡ q5) (h5 : b5 ≡ false) (e6 : b6 ≡ q6) where
-            pub eleven-6 : b6 ≡ true → Field 0 ≡ asFault (alone11 c l)
-            eleven-6 h6 =
-                fault-passes (alone11 c l) (eleven c l) (alone-eleven c l)
+            pub members-passed : b6 ≡ true → Field 0 ≡ asFault (alone11 c l)
+            members-passed h6 =
+                at-11
                 (or-on q1 _ (sym e1 ∙ h1)
                 (or-on q2 _ (sym e2 ∙ h2)
                 (or-on q3 _ (sym e3 ∙ h3) (or-on q4 _ (sym e4 ∙ h4) (or-on q5 _ (sym e5 ∙ h5) (sym e6 ∙ h6))))))
 
-            pub eleven-7 : b6 ≡ false → Fine ≡ asFault (alone11 c l)
-            eleven-7 h6 =
+            pub none-passed : b6 ≡ false → Fine ≡ asFault (alone11 c l)
+            none-passed h6 =
                 fault-none (alone11 c l) (eleven c l) (alone-eleven c l)
                 (or-none q1 _ (sym e1 ∙ h1)
                 (or-none q2 _ (sym e2 ∙ h2)
@@ -190,7 +196,7 @@ twenty-one c l count n =
     passes 7 512 (c .nodes) l
     || (passes 8 1024 (c .edges) l || (passes 9 1024 (c .properties) l || (eqb l P && ltb 8192 (valuesIn l count n + c .values))))
 
-pub alone-twenty-one : (c : Counts) (l count n : ℕ) → alone21 c l count n ≡ faultIf (twenty-one c l count n) 0
+alone-twenty-one : (c : Counts) (l count n : ℕ) → alone21 c l count n ≡ faultIf (twenty-one c l count n) 0
 unfolding alone21 full
 alone-twenty-one c l count n =
     let p1 = passes 7 512 (c .nodes) l in
@@ -201,7 +207,7 @@ alone-twenty-one c l count n =
     ∙ ap (λ (o : Option ℕ). worse (faultIf p1 0) o) (whole-line p2 (p3 || p4))
     ∙ whole-line p1 (p2 || (p3 || p4))
 
--- the answers of 21
+-- the answers of 21: the first maximum that is passed
 module _ (c : Counts) (l count n : ℕ) (b1 b2 b3 : Bool) where
   abbrev w1 : Bool
   w1 = passes 7 512 (c .nodes) l
@@ -212,36 +218,43 @@ module _ (c : Counts) (l count n : ℕ) (b1 b2 b3 : Bool) where
   abbrev w3 : Bool
   w3 = passes 9 1024 (c .properties) l
 
-  pub twenty-1 : b1 ≡ w1 → b1 ≡ true → Field 0 ≡ asFault (alone21 c l count n)
-  twenty-1 e1 h1 = fault-passes (alone21 c l count n) (twenty-one c l count n) (alone-twenty-one c l count n) (or-here w1 _ (sym e1 ∙ h1))
+  at-21 : twenty-one c l count n ≡ true → Field 0 ≡ asFault (alone21 c l count n)
+  at-21 h = fault-passes (alone21 c l count n) (twenty-one c l count n) (alone-twenty-one c l count n) h
+
+  pub nodes-passed : b1 ≡ w1 → b1 ≡ true → Field 0 ≡ asFault (alone21 c l count n)
+  nodes-passed e1 h1 = at-21 (or-here w1 _ (sym e1 ∙ h1))
 
   module _ (e1 : b1 ≡ w1) (h1 : b1 ≡ false) where
-    pub twenty-2 : b2 ≡ w2 → b2 ≡ true → Field 0 ≡ asFault (alone21 c l count n)
-    twenty-2 e2 h2 =
-        fault-passes (alone21 c l count n) (twenty-one c l count n) (alone-twenty-one c l count n) (or-on w1 _ (sym e1 ∙ h1) (or-here w2 _ (sym e2 ∙ h2)))
+    pub edges-passed : b2 ≡ w2 → b2 ≡ true → Field 0 ≡ asFault (alone21 c l count n)
+    edges-passed e2 h2 = at-21 (or-on w1 _ (sym e1 ∙ h1) (or-here w2 _ (sym e2 ∙ h2)))
 
-    module _ (e2 : b2 ≡ w2) (h2 : b2 ≡ false) (e3 : b3 ≡ w3) where
-      pub twenty-3 : b3 ≡ true → Field 0 ≡ asFault (alone21 c l count n)
-      twenty-3 h3 =
-          fault-passes (alone21 c l count n) (twenty-one c l count n) (alone-twenty-one c l count n)
-          (or-on w1 _ (sym e1 ∙ h1) (or-on w2 _ (sym e2 ∙ h2) (or-here w3 _ (sym e3 ∙ h3))))
+    pub properties-passed : b2 ≡ w2 → b2 ≡ false → b3 ≡ w3 → b3 ≡ true → Field 0 ≡ asFault (alone21 c l count n)
+    properties-passed e2 h2 e3 h3 = at-21 (or-on w1 _ (sym e1 ∙ h1) (or-on w2 _ (sym e2 ∙ h2) (or-here w3 _ (sym e3 ∙ h3))))
 
-      pub twenty-4 : b3 ≡ false → (t : Bool) → (eqb l P && ltb 8192 (valuesIn l count n + c .values)) ≡ t → asFault (faultIf t 0) ≡ asFault (alone21 c l count n)
-      twenty-4 h3 t e4 =
-          sym (ap asFault (alone-twenty-one c l count n ∙ ap (λ (u : Bool). faultIf u 0) (last t e4)))
-        where
-          last : (t : Bool) → (eqb l P && ltb 8192 (valuesIn l count n + c .values)) ≡ t → twenty-one c l count n ≡ t
-          last t q = rw (sym e1 ∙ h1, sym e2 ∙ h2, sym e3 ∙ h3) q
+-- no table of a graph is full for a row with this letter
+pub record Room (c : Counts) (l : ℕ) : Type 0 where
+  pub nodes : passes 7 512 (c .nodes) l ≡ false
+  pub edges : passes 8 1024 (c .edges) l ≡ false
+  pub properties : passes 9 1024 (c .properties) l ≡ false
 
-      module _ (h3 : b3 ≡ false) where
-        pub twenty-5 : (v : ℕ) → v ≡ valuesIn l count n → l ≡ 80 → 8192 < v + c .values → Field 0 ≡ asFault (alone21 c l count n)
-        twenty-5 v e4 p k = twenty-4 h3 true (rw (eq-eqb l 80 p, ← e4) (lt-ltb 8192 (v + c .values) k))
+-- then the values decide
+module _ (c : Counts) (l count n : ℕ) (room : Room c l) where
+  abbrev large : Bool
+  large = eqb l P && ltb 8192 (valuesIn l count n + c .values)
 
-        pub twenty-6 : (v : ℕ) → v ≡ valuesIn l count n → l ≡ 80 → v + c .values ≤ 8192 → Fine ≡ asFault (alone21 c l count n)
-        twenty-6 v e4 p k = twenty-4 h3 false (rw (eq-eqb l 80 p, ← e4) (le-ltb 8192 (v + c .values) k))
+  values-decide : (t : Bool) → large ≡ t → asFault (faultIf t 0) ≡ asFault (alone21 c l count n)
+  values-decide t e =
+      let all : twenty-one c l count n ≡ t = rw (room .nodes, room .edges, room .properties) e in
+      sym (ap asFault (alone-twenty-one c l count n ∙ ap (λ (u : Bool). faultIf u 0) all))
 
-        pub twenty-7 : (l ≡ 80 → ⊥) → Fine ≡ asFault (alone21 c l count n)
-        twenty-7 p = twenty-4 h3 false (rw (ne-eqb l 80 p))
+  pub values-passed : {v : ℕ} → v ≡ valuesIn l count n → l ≡ 80 → 8192 < v + c .values → Field 0 ≡ asFault (alone21 c l count n)
+  values-passed {v} e p k = values-decide true (rw (eq-eqb l 80 p, ← e) (lt-ltb 8192 (v + c .values) k))
+
+  pub values-kept : {v : ℕ} → v ≡ valuesIn l count n → l ≡ 80 → v + c .values ≤ 8192 → Fine ≡ asFault (alone21 c l count n)
+  values-kept {v} e p k = values-decide false (rw (eq-eqb l 80 p, ← e) (le-ltb 8192 (v + c .values) k))
+
+  pub no-values : (l ≡ 80 → ⊥) → Fine ≡ asFault (alone21 c l count n)
+  no-values p = values-decide false (rw (ne-eqb l 80 p))
 
 pub values-most : (l count n : ℕ) → valuesIn l count n ≤ count
 unfolding valuesIn

@@ -81,7 +81,7 @@ module _ (n : ℕ) (ps rs : List Row) (room : 9992 ≤ n) (fits : SchemaFits (ps
   unfolding pairBase pairCount
   other-paired l h g m = rw (h, g, m)
 
-  pub pair-split : (l : ℕ) → Paired l
+  pair-split : (l : ℕ) → Paired l
   pair-split l =
       by-test (eqb l H)
       (λ e. subst Paired (sym (eqb-true l H e)) has-paired)

@@ -30,7 +30,7 @@ length-first : (b : ℕ) (ls : List Line) → length (onFirstLine b ls) ≤ suc 
 length-first b [] = omega arith
 length-first b (l ∷ ls) = omega arith
 
-pub lines-length : (s : List ℕ) → length (lines s) ≤ length s
+lines-length : (s : List ℕ) → length (lines s) ≤ length s
 lines-length [] = omega arith
 lines-length (b ∷ s) =
     by-test (eqb b newline)

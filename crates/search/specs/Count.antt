@@ -1,7 +1,6 @@
 -- What is counted on the way through a text's lines. Assumes nothing.
 use Prim.Native.Nat.{ℕ, _+_, _≤_}
 use mathlib.Core.List.{List}
-use mathlib.Core.Bool.{Bool}
 use lib.ListN.{length}
 use Rattle.rules.specs.Lists.{oneIf, sumOf}
 use Rattle.rules.specs.Text.{Row}

@@ -3,7 +3,7 @@ ghost use mathlib.Core.Path.{_≡_};
 ghost use mathlib.Core.List.{[]};
 ghost use mathlib.Core.Bool.{_&&_};
 ghost use lib.Dec.{leb};
-ghost use Prim.Native.Nat.{_+_, _*_, _≤_, _<_};
+ghost use Prim.Native.Nat.{_+_, _≤_, _<_};
 ghost use lib.ListN.{length};
 ghost use Rattle.rules.specs.Lists.{oneIf};
 ghost use Rattle.rules.specs.Text.{lines, rows};
@@ -12,26 +12,25 @@ ghost use Rattle.rules.proofs.Clean.{Each};
 ghost use Rattle.tables.specs.Layout.{belongs};
 ghost use Rattle.tables.specs.Fill.{Plain, lettered};
 ghost use Rattle.tables.specs.Read.{schemaAt};
-ghost use Rattle.schema.specs.Held.{SchemaHeld};
 ghost use Rattle.search.specs.Count.{countsOf, countsWith, Within};
-ghost use Rattle.search.specs.Search.{Areas, areas, graphIn, checkBy, alone11, alone21, alone24, alone31, alone, pairCount, limit, clash, SearchedFor, Ready, Testable, GraphTestable, Clashable};
+ghost use Rattle.search.specs.Search.{areas, graphIn, checkBy, alone11, alone21, alone31, alone, limit, clash, SearchedFor, Ready, Testable, GraphTestable, Clashable};
 use rules::Fault;
 use rules::FieldNo;
 use rules::Spot;
 
 // How many lines of each kind have been passed, how many values they have, and how many they are.
-pub struct Counts {
-    pub types: u32,
-    pub fields: u32,
-    pub args: u32,
-    pub has: u32,
-    pub takes: u32,
-    pub members: u32,
-    pub nodes: u32,
-    pub edges: u32,
-    pub properties: u32,
-    pub values: u32,
-    pub lines: u32,
+struct Counts {
+    types: u32,
+    fields: u32,
+    args: u32,
+    has: u32,
+    takes: u32,
+    members: u32,
+    nodes: u32,
+    edges: u32,
+    properties: u32,
+    values: u32,
+    lines: u32,
 }
 
 // One where a row with this letter belongs to table k.
@@ -47,7 +46,7 @@ fn tick(k: u32, letter: u8) -> u32
 
 impl Counts {
     // Nothing has been passed.
-    pub fn none() -> Counts
+    fn none() -> Counts
         ensures { λ r. ⌜ r ≡ countsOf [] ⌝ }
     {
         Counts {
@@ -66,7 +65,7 @@ impl Counts {
     }
 
     // One line more, with so many values.
-    pub fn with_row(self, letter: u8, values: u32) -> Counts
+    fn with_row(self, letter: u8, values: u32) -> Counts
         requires { ⌜ Within 65535 self ⌝ }
         requires { ⌜ values ≤ 65535 ⌝ }
         ensures { λ r. ⌜ r ≡ countsWith self letter values ⌝ }
@@ -192,7 +191,7 @@ fn graph_fault(
 }
 
 // What the check with a number says of a line alone, where c counts the lines before it.
-pub fn line_alone(
+fn line_alone(
     check: u32,
     c: Counts,
     r: text::Row,
@@ -236,15 +235,7 @@ pub fn line_alone(
 // ---- a line and an earlier one
 
 // How many of the lines before it a line can clash with.
-pub fn earlier(
-    check: u32,
-    c: Counts,
-    r: text::Row,
-    a: &[u32],
-    g: &[u32],
-    p: &[u32],
-    v: &[u32],
-) -> u32
+fn earlier(check: u32, c: Counts, r: text::Row, a: &[u32], g: &[u32], p: &[u32], v: &[u32]) -> u32
     requires { ⌜ SearchedFor check ⌝ }
     requires { ⌜ Testable check (areas (now a) (now g) (now p) (now v)) c r ⌝ }
     ensures { λ n. ⌜ n ≡ limit check (areas (now (a .entry)) (now (g .entry)) (now (p .entry)) (now (v .entry))) c r ⌝ }
@@ -283,15 +274,7 @@ pub fn earlier(
 }
 
 // Whether a line clashes with the j-th earlier line of its kind.
-pub fn clashes(
-    check: u32,
-    r: text::Row,
-    j: usize,
-    a: &[u32],
-    g: &[u32],
-    p: &[u32],
-    v: &[u32],
-) -> bool
+fn clashes(check: u32, r: text::Row, j: usize, a: &[u32], g: &[u32], p: &[u32], v: &[u32]) -> bool
     requires { ⌜ Clashable check (areas (now a) (now g) (now p) (now v)) r j ⌝ }
     ensures { λ b. ⌜ b ≡ clash check (areas (now (a .entry)) (now (g .entry)) (now (p .entry)) (now (v .entry))) r j ⌝ }
 {

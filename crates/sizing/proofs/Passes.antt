@@ -9,7 +9,6 @@ use mathlib.Core.List.{List, [], _∷_, _++_, map}
 use lib.ListN.{length, take, drop, length-map}
 use lib.Seq.{take-take, take-nil, take-at, take-length, length-take-le}
 use lib.Dec.{eqb}
-use borrow.Author.Tests.{eq-eqb, ne-eqb}
 use Rattle.rules.specs.Lists.{times, countUp, oneIf}
 use Rattle.rules.specs.Text.{Row}
 use Rattle.rules.specs.Tree.{Asks, Entry, siblings, entries, tree}
@@ -17,9 +16,9 @@ use Rattle.rules.specs.World.{World}
 use Rattle.rules.specs.Eval.{next}
 use Rattle.rules.specs.Sizing.{weighed, start, Visit, visitsOf, visits, own, summed, capAt, most, cap}
 use Rattle.rules.proofs.Preorder.{Steps}
-use Rattle.rules.proofs.Walk.{put, walk, visits-walk}
+use Rattle.rules.proofs.Walk.{put, put-same, put-other, walk, visits-walk}
 use Rattle.rules.proofs.Cap.{capPassed, capVisit, capVisits, visits-cap, tally, tally-from}
-use Rattle.rules.proofs.Size.{length-start}
+use Rattle.rules.proofs.Size.{length-countUp, length-start}
 use Rattle.tables.specs.Read.{cell, wideAt}
 use Rattle.tables.specs.Layout.{laid}
 use Rattle.tables.proofs.Laid.{laid-part}
@@ -80,7 +79,7 @@ walk-measured w rs root s =
 
 passed-length : (w : World) (a : Asks) (row : List ℕ) → length (passedOn w a row) ≡ w .size
 unfolding passedOn
-passed-length w a row = length-map (countUp 0 (w .size)) _ ∙ sym (length-map (countUp 0 (w .size)) (λ v. oneIf (eqb v 0))) ∙ length-start w 0
+passed-length w a row = length-map (countUp 0 (w .size)) _ ∙ length-countUp 0 (w .size)
 
 passed-by : (w w′ : World) (a : Asks) (row : List ℕ) → w .size ≡ w′ .size → ((u : ℕ) → next w a u ≡ next w′ a u)
     → passedOn w a row ≡ passedOn w′ a row
@@ -104,9 +103,9 @@ module _ (a g p v : List ℕ) where
 -- ---- rows in an area
 
 -- the row that was laid
-row-laid : (b : ℕ) (row m : List ℕ) (n : ℕ) → length row ≡ n → b + n ≤ length m → rowIn (laid b row m) b n ≡ row
+laid-row : (b : ℕ) (row m : List ℕ) (n : ℕ) → length row ≡ n → b + n ≤ length m → rowIn (laid b row m) b n ≡ row
 unfolding rowIn
-row-laid b row m n e h =
+laid-row b row m n e h =
     let z : b ≡ b + 0 = omega arith in
     ap (λ (i : ℕ). take n (drop i (laid b row m))) z
     ∙ laid-part b row m 0 n (omega arith) (omega arith)
@@ -127,12 +126,6 @@ take-laid b row m h = take-at (take b m) (row ++ drop (b + length row) m) b (len
 row-kept : (b : ℕ) (row m : List ℕ) (c n : ℕ) → b ≤ length m → c + n ≤ b → rowIn (laid b row m) c n ≡ rowIn m c n
 row-kept b row m c n f h =
     sym (row-take (laid b row m) c n b h) ∙ ap (λ (l : List ℕ). rowIn l c n) (take-laid b row m f) ∙ row-take m c n b h
-
-put-same : (rows : ℕ → List ℕ) (k : ℕ) (row : List ℕ) → put rows k row k ≡ row
-put-same rows k row = rw (eq-eqb k k refl)
-
-put-other : (rows : ℕ → List ℕ) (k : ℕ) (row : List ℕ) (j : ℕ) → j < k → rows j ≡ put rows k row j
-put-other rows k row j h = rw (ne-eqb j k (λ e. omega arith))
 
 -- ---- the loop: entries es are left, the rows of the open depths stand in the area, and the tally of the walk over es is the goal
 
@@ -181,10 +174,10 @@ module _ (w : World) (goal : Tally) (n k : ℕ) (e : Entry) (es : List Entry) (m
           let row = passedOn w (e .asks) (x .rows d) in
           let h : suc d ≤ 15 = omega arith in
           subst (λ (y : ℕ). rowIn m′ (512 * y) n ≡ put (x .rows) (suc d) row y) (sym i)
-          (below h ∙ ap (passedOn w (e .asks)) row-here ∙ sym (put-same (x .rows) (suc d) row))
+          (below h ∙ ap (passedOn w (e .asks)) row-here ∙ sym (put-same (passedOn w) (x .rows) (suc d) row))
       go j l (inr i) =
           same j (omega arith) ∙ x .held j (omega (arith, x .steps .0)) l
-          ∙ put-other (x .rows) (suc (e .level)) (passedOn w (e .asks) (x .rows (e .level))) j i
+          ∙ put-other (passedOn w) (x .rows) (suc (e .level)) (passedOn w (e .asks) (x .rows (e .level))) j i
 
   -- no depth below
   flat : 15 ≤ e .level → m′ ≡ m → Left w goal n es (k + 1) m′ t′
@@ -201,7 +194,7 @@ module _ (w : World) (goal : Tally) (n k : ℕ) (e : Entry) (es : List Entry) (m
       (λ j l. ap (λ (y : List ℕ). rowIn y (512 * j) n) is ∙ row-kept (512 * d + 512) row m (512 * j) n (omega arith) (omega arith))
       (λ l.
       ap₂ (λ (y : List ℕ) (i : ℕ). rowIn y i n) is b
-      ∙ row-laid (512 * d + 512) row m n (passed-length w (e .asks) (rowIn m (512 * d) n) ∙ sym all) (omega arith))
+      ∙ laid-row (512 * d + 512) row m n (passed-length w (e .asks) (rowIn m (512 * d) n) ∙ sym all) (omega arith))
 
 -- ---- the same over areas
 
@@ -218,7 +211,7 @@ module _ (a g p v q : List ℕ) where
       let wide : length (start w root) ≡ cell g 0 = length-start w root ∙ world-size a g p v in
       let first : rowIn m′ 0 (cell g 0) ≡ start w root =
       ap (λ (y : List ℕ). rowIn y 0 (cell g 0)) (is ∙ ap (λ (r : List ℕ). laid 0 r m) (start-plain a g p v root))
-      ∙ row-laid 0 (start w root) m (cell g 0) wide (omega arith) in
+      ∙ laid-row 0 (start w root) m (cell g 0) wide (omega arith) in
       record {
         rows = λ _. start w root;
         deep = 0;

@@ -28,7 +28,8 @@ use Rattle.world.specs.declared.FieldKind.the-variants.{Scalar, Objects, Object
 use Rattle.sizing.specs.Measure.{rowIn, pushed, passedOn}
 use Rattle.world.proofs.Asked.{asks-field, asks-on, asked-field}
 use Rattle.world.proofs.Targets.{world-size, world-shape, world-targets, world-holds, targets-all, targets-done, targets-more, edge-on, ends-closed}
-use Rattle.sizing.proofs.Rows.{zeros, zeros-length, zeroed-length, row-same, row-get, row-length, Outside, row-laid, pushed-none, pushed-first, pushed-length, pushed-at, pushed-out}
+use Rattle.sizing.proofs.Rows.{zeros, zeros-length, zeroed-length, row-same, row-get, row-length, Outside, row-laid}
+use Rattle.sizing.proofs.Rows.{pushed-none, pushed-first, pushed-length, pushed-at, pushed-out}
 
 -- ---- the targets added one by one
 
@@ -110,7 +111,9 @@ module _ (a g q : List ℕ) (k u b x : ℕ) (m : List ℕ) (z : ℕ) (is : z ≡
   goes-one : (v : ℕ) (m′ : List ℕ) → m′ ≡ set m (b + v) (cap (getD m (b + v) 0 + x)) → nextAt a g q k u ≡ v ∷ [] → Goes m′
   goes-one v m′ s e =
       s
-      ∙ sym (ap (λ (vs : List ℕ). pushed b x vs m) e ∙ pushed-first b x v [] m ∙ pushed-none b x (set m (b + v) (cap (getD m (b + v) 0 + x))))
+      ∙ sym (ap (λ (vs : List ℕ). pushed b x vs m) e
+      ∙ pushed-first b x v [] m
+      ∙ pushed-none b x (set m (b + v) (cap (getD m (b + v) 0 + x))))
 
   -- a type condition t, which the node's type meets or not
   module _ (no : z ≡ 70 → ⊥) (t : ℕ) (at : t ≡ wideAt q 8 k 3) (y : Bool) (met : y ≡ holdsAt a g u (typeNo t)) where
@@ -235,7 +238,10 @@ module _ (to : ℕ → List ℕ) (c b n : ℕ) (m₀ : List ℕ) (low : c + n �
           record {
             same = ap length s ∙ p .same;
             inside = λ v k. ap (λ (l : List ℕ). getD l (b + v) 0) s ∙ p .inside v k
-                ∙ ap cap (sym (more v ∙ ap (λ (i : ℕ). reached to (take u row) v + i * times v (to u)) o ∙ omega (arith, zero-mul (times v (to u)))));
+                ∙ ap cap
+                (sym (more v
+                ∙ ap (λ (i : ℕ). reached to (take u row) v + i * times v (to u)) o
+                ∙ omega (arith, zero-mul (times v (to u)))));
             outside = λ i o. ap (λ (l : List ℕ). getD l i 0) s ∙ p .outside i o;
           }
 
@@ -245,7 +251,8 @@ module _ (to : ℕ → List ℕ) (c b n : ℕ) (m₀ : List ℕ) (low : c + n �
         (λ v k. p .inside v k ∙ ap (λ (l : List ℕ). cap (reached to l v)) (take-all u row (omega (arith, wide)))) (p .outside)
 
 -- the area m₁, of which the children's row is cleared
-module _ (to : ℕ → List ℕ) (c b n : ℕ) (m₀ m₁ : List ℕ) (low : c + n ≤ b) (high : b + n ≤ length m₀) (e : m₁ ≡ laid b (zeros n) m₀) where
+module _ (to : ℕ → List ℕ) (c b n : ℕ) (m₀ m₁ : List ℕ) (low : c + n ≤ b) (high : b + n ≤ length m₀)
+    (e : m₁ ≡ laid b (zeros n) m₀) where
   cleared : Passing to c b n m₀ m₁ 0
   cleared = passing-start to c b n m₀ low high m₁ e
 

@@ -1,18 +1,20 @@
 -- Rows of multiplicities in an area: a row cleared, the first row, and numbers added at nodes. Assumes nothing.
-use Prim.Native.Nat.{ℕ, zero, suc, _+_, _*_, _-_, _≤_, _<_}
+use Prim.Native.Nat.{ℕ, _+_, _*_, _-_, _≤_, _<_}
 use native.Mathlib.Nat.{zero-add, mul-zero, mul-add, mul-one}
 use native.Mathlib.Decide.{decLt, ℕ-discrete}
 use native.Mathlib.Omega.{arith}
 use mathlib.Core.Path.{_≡_, refl, sym, ap, _∙_}
 use mathlib.Core.List.{List, [], _∷_, _++_, map, append-nil}
 use lib.Dec.{eqb}
-use lib.ListN.{length, getD, drop, set, replicate, length-set, length-take, length-drop, length-map, length-replicate, getD-replicate, replicate-append-replicate, drop-of-length-le}
+use lib.ListN.{length, getD, drop, set, replicate, length-set, length-take, length-drop, length-map, length-replicate}
+use lib.ListN.{getD-replicate, replicate-append-replicate, drop-of-length-le}
 use lib.Seq.{ext-getD, getD-take, getD-drop, getD-set-same, getD-set-other}
 use borrow.Author.Tests.{eq-eqb, ne-eqb}
 use Rattle.rules.specs.Lists.{times, countUp, oneIf}
 use Rattle.rules.specs.World.{World}
 use Rattle.rules.specs.Sizing.{start, cap, most}
 use Rattle.rules.proofs.Cap.{capAt-left}
+use Rattle.rules.proofs.Size.{length-countUp}
 use Rattle.rules.proofs.Sums.{Below}
 use Rattle.rules.proofs.Visited.{getD-up}
 use Rattle.tables.specs.Layout.{laid}
@@ -78,10 +80,6 @@ row-same l m b n h same agree = ext-getD 0 (rowIn m b n) (rowIn l b n) (wide ∙
 
 -- ---- an area of which a row is known number by number
 
-count-length : (i n : ℕ) → length (countUp i n) ≡ n
-count-length i zero = refl
-count-length i (suc n) = ap suc (count-length (suc i) n)
-
 -- place i is none of the row of n numbers from place b on
 abbrev pub Outside : ℕ → ℕ → ℕ → Type 0
 Outside b n i = (w : ℕ) → w < n → i ≡ b + w → ⊥
@@ -95,7 +93,7 @@ row-laid f b n l m h same inside outside = ext-getD 0 m (laid b row l) (omega (a
     row = map f (countUp 0 n)
 
     wide : length row ≡ n
-    wide = length-map (countUp 0 n) f ∙ count-length 0 n
+    wide = length-map (countUp 0 n) f ∙ length-countUp 0 n
 
     fits : b + length row ≤ length l
     fits = omega (arith, wide)
@@ -154,7 +152,9 @@ first-laid W r t n l m s h k e is =
     apart : (i : ℕ) → Outside 0 n i → getD (set m r 1) i 0 ≡ getD l i 0
     apart i o =
         let u = past i o (decLt i n) in
-        getD-set-other m r i 1 0 (omega arith) ∙ ap (λ (x : List ℕ). getD x i 0) e ∙ laid-behind 0 (zeros n) l i (omega arith) (omega (arith, wide))
+        getD-set-other m r i 1 0 (omega arith)
+        ∙ ap (λ (x : List ℕ). getD x i 0) e
+        ∙ laid-behind 0 (zeros n) l i (omega arith) (omega (arith, wide))
 
 -- ---- a number added at some nodes
 
@@ -185,7 +185,8 @@ module _ (b x : ℕ) where
       p : ℕ
       p = cap (getD m (b + w) 0 + x)
 
-      go : ((z : ℕ) → getD (set m (b + w) p) (b + v) 0 ≡ cap z → getD (pushed b x ws (set m (b + w) p)) (b + v) 0 ≡ cap (z + x * times v ws))
+      go : ((z : ℕ) → getD (set m (b + w) p) (b + v) 0 ≡ cap z
+          → getD (pushed b x ws (set m (b + w) p)) (b + v) 0 ≡ cap (z + x * times v ws))
           → Dec (v ≡ w) → getD (pushed b x (w ∷ ws) m) (b + v) 0 ≡ cap (y + x * times v (w ∷ ws))
       go ih (yes d) =
           let s : b + v ≡ b + w = omega arith in

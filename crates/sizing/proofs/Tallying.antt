@@ -2,7 +2,6 @@
 use Prim.Native.Nat.{ℕ, zero, suc, _+_, _*_, _-_, _^_, _≤_, _<_}
 use native.Mathlib.Nat.{mul-le-mul}
 use native.Mathlib.Numerals.{add-one}
-use native.Mathlib.Decide.{decLe}
 use native.Mathlib.Omega.{arith}
 use mathlib.Core.Path.{_≡_, refl, sym, ap, ap₂, _∙_}
 use mathlib.Core.Bool.{Bool, true, false, cond}
@@ -26,7 +25,7 @@ use Rattle.world.specs.declared.Property.the-variants.{Row, Nothing}
 use Rattle.world.specs.declared.FieldKind.{FieldKind}
 use Rattle.world.specs.declared.FieldKind.the-variants.{Scalar, Objects, Object}
 use Rattle.world.proofs.Asked.{asks-field, asks-on, asked-field}
-use Rattle.world.proofs.Targets.{targets-all, targets-done, targets-more, targets-few, edge-on, world-lookup, world-shape, world-targets}
+use Rattle.world.proofs.Targets.{targets-all, targets-done, targets-more, targets-few, world-lookup, world-shape, world-targets}
 use Rattle.sizing.proofs.Rows.{row-get, row-length}
 
 -- ---- one visit more
@@ -67,21 +66,13 @@ module _ (g : List ℕ) (u : ℕ) (l : Label) (n e : ℕ) where
   pub counted-end : cell g 1 ≤ e → Counted g u l n e → n ≡ length (targetsAt g u l)
   counted-end h x = omega (arith, x .sum, ap length (targets-done g u l (x .from) e (x .first) h))
 
-  module _ (e′ : ℕ) (inside : e < cell g 1) (onward : e′ ≡ edgeFrom g u l (e + 1)) where
-    pub counted-on : Counted g u l n e → Counted g u l (n + 1) e′
-    counted-on x =
-        record {
-          from = e + 1;
-          first = onward;
-          sum = omega (arith, x .sum, ap length (targets-more g u l (x .from) e (x .first) inside));
-        }
-
-    pub counted-less : cell g 1 - e′ < cell g 1 - e
-    counted-less = go (decLe (cell g 1) e′)
-      where
-        go : Dec (cell g 1 ≤ e′) → cell g 1 - e′ < cell g 1 - e
-        go (yes h) = omega arith
-        go (no h) = omega (arith, edge-on g u l (e + 1) e′ onward (omega arith))
+  pub counted-on : (e′ : ℕ) → e < cell g 1 → e′ ≡ edgeFrom g u l (e + 1) → Counted g u l n e → Counted g u l (n + 1) e′
+  counted-on e′ inside onward x =
+      record {
+        from = e + 1;
+        first = onward;
+        sum = omega (arith, x .sum, ap length (targets-more g u l (x .from) e (x .first) inside));
+      }
 
 -- ---- the values of a property
 

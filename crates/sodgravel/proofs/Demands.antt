@@ -1,5 +1,5 @@
 -- The three demands follow from the contracts of `size` and `answer` alone. Assumes nothing.
-use Prim.Native.Nat.{ℕ, zero, suc, _≤_, _<_}
+use Prim.Native.Nat.{ℕ, _≤_, _<_}
 use native.Mathlib.Decide.{decLt}
 use native.Mathlib.Omega.{arith}
 use mathlib.Core.Path.{_≡_, refl, sym, ap, _∙_, subst}
@@ -11,27 +11,31 @@ use lib.Seq.{getD-take}
 use Rattle.rules.specs.World.{Shape}
 use Rattle.rules.specs.Eval.{label, answer as shownBehind}
 use Rattle.rules.specs.Sizing.{cap}
-use Rattle.rules.specs.Answer.{Texts, worldOf, response, visitsIn, Numbered, checks, answerChecks, areasAfter, refused, sized, answered, space, written}
+use Rattle.rules.specs.Answer.{Texts, worldOf, response, visitsIn}
+use Rattle.rules.specs.Answer.{Numbered, checks, answerChecks, areasAfter, refused, sized, answered, space, written}
 use Rattle.rules.specs.Contract.{Passed, Least, Shows, Exact, Exceeds, Fits, Written, AllZeros, Answers}
 use Rattle.rules.specs.declared.Spot.{Spot}
 use Rattle.rules.specs.declared.Outcome.{Outcome}
 use Rattle.rules.proofs.Clean.{Each}
 use Rattle.rules.proofs.Facts.{Facts, facts}
 use Rattle.rules.proofs.Accepted.{response-size, visits-met, visits-in-order, no-visit-twice}
-use Rattle.rules.proofs.Outcomes.{SizeCase, size-case, sized-passed, accepted-exactly, size-exact, size-above, visits-told, AnswerCase, answer-case, answer-accepted-exactly, fifty-exactly}
+use Rattle.rules.proofs.Outcomes.{SizeCase, size-case, sized-passed, accepted-exactly, size-exact, size-above, visits-told}
+use Rattle.rules.proofs.Outcomes.{AnswerCase, answer-case, answer-accepted-exactly, fifty-exactly}
 use Rattle.rules.proofs.Outcomes.SizeCase.{accepts as sizes, refuses as refusesSize}
 use Rattle.rules.proofs.Outcomes.AnswerCase.{accepts as fits, overflows, refuses as refusesAnswer}
 use Rattle.rules.proofs.Unique.{sizing-meets, answering-meets}
 use Rattle.judge.specs.Texts.{workAreas}
 use Rattle.sodgravel.specs.Calls.{areasOf, anyShort, sizedIn, answeredIn, bufferIn, cleared}
 use Rattle.sodgravel.specs.Ruled.{RulesMet}
-use Rattle.sodgravel.specs.Demands.{Given, Left, AreasEnsured, SizeEnsured, AnswerEnsured, areasIn, shortIn, areasLeft, Refused, TooLarge, Demand1, Demand2, Demand3}
+use Rattle.sodgravel.specs.Demands.{Given, Left, AreasEnsured, SizeEnsured, AnswerEnsured, areasIn, shortIn, areasLeft}
+use Rattle.sodgravel.specs.Demands.{Refused, TooLarge, Demand1, Demand2, Demand3}
+use Rattle.sodgravel.proofs.Telling.{unwritten}
 use Rattle.sodgravel.proofs.Rules.{passed-exactly, answer-passed-exactly, Fixes, place-fixed, checks-fixed, answer-checks-fixed}
 
 -- ---- that they are met
 
-refused-as : (x : Texts) (cs : List Numbered) → Each (Fixes x) cs → (o : Outcome) (n : ℕ) (p : Spot) → Least cs n p → 0 < n → o ≡ refused n p
-    → Refused x cs o
+refused-as : (x : Texts) (cs : List Numbered) → Each (Fixes x) cs → (o : Outcome) (n : ℕ) (p : Spot)
+    → Least cs n p → 0 < n → o ≡ refused n p → Refused x cs o
 refused-as x cs f o n p l h e =
     subst (Refused x cs) (sym e)
     (record {
@@ -43,10 +47,6 @@ refused-as x cs f o n p l h e =
       size = refl;
       visits = refl;
     })
-
-unwritten : (n : ℕ) (r buffer : List ℕ) → (n ≡ 0 → ⊥) → written n r buffer ≡ buffer
-unwritten zero r buffer h = absurd (h refl)
-unwritten (suc n) r buffer h = refl
 
 within : (n room : ℕ) (buffer : List ℕ) → (n ≤ space room buffer) ↔ Fits n room buffer
 within n room buffer = (λ h. record { given = omega arith; held = omega arith }, λ f. omega (arith, f .given, f .held))
@@ -139,7 +139,8 @@ module _ (g : Given) (size answer : Left) (buffer : List ℕ) (es : SizeEnsured 
           ⊎ (TooLarge (answer .outcome) ⊎ Refused x (answerChecks short x (g .room)) (answer .outcome))
       by-answer (fits p l e) = inl (ap (λ (o : Outcome). o .number) (answered-is ∙ e))
       by-answer (overflows p l e) =
-          inr (inl (record { number = ap (λ (o : Outcome). o .number) (answered-is ∙ e); place = ap (λ (o : Outcome). o .place) (answered-is ∙ e) }))
+          let is = answered-is ∙ e in
+          inr (inl (record { number = ap (λ (o : Outcome). o .number) is; place = ap (λ (o : Outcome). o .place) is }))
       by-answer (refusesAnswer n p l h e) =
           let cs = answerChecks short x (g .room) in
           inr (inr (refused-as x cs (answer-checks-fixed short x (g .room)) (answer .outcome) n p l h (answered-is ∙ e)))

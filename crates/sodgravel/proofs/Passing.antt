@@ -20,6 +20,11 @@ use Rattle.judge.specs.Texts.{Lent, workAreas, tooShortOf, Judged}
 use Rattle.judge.proofs.Texts.{Passes, Long, long-areas, accepted-passes}
 use Rattle.sodgravel.specs.Calls.{areasOf, anyShort}
 
+-- what holds of the first of several, and what holds of those behind it
+infixr 20 _then_
+abbrev pub _then_ : {A B : Type 0} → A → B → A × B
+a then b = (a, b)
+
 -- ---- 2: the area of the rows is looked at beside those of the texts
 
 any-last : (p : Area → Bool) (xs : List Area) (y : Area) → any p (xs ++ (y ∷ [])) ≡ (any p xs || p y)
@@ -65,46 +70,8 @@ module _ (x : Texts) (before after : Lent) (v : Verdict) (j : Judged x before af
 pub judged-none : (short : Bool) (x : Texts) → Passed (checks short x) → judged (textChecks short x) ≡ refusedBy 0 (spot 0 0)
 unfolding judged textChecks
 judged-none short x p =
-    verdict-passes refusedBy (refusedBy 0 (spot 0 0)) (textChecks short x) (
-      p 2,
-      (
-        p 10,
-        (
-          p 11,
-          (
-            p 12,
-            (
-              p 13,
-              (
-                p 14,
-                (
-                  p 15,
-                  (
-                    p 16,
-                    (
-                      p 20,
-                      (
-                        p 21,
-                        (
-                          p 22,
-                          (
-                            p 23,
-                            (
-                              p 24,
-                              (
-                                p 25,
-                                (p 26, (p 27, (p 30, (p 31, (p 32, (p 33, (p 34, tt))))))),
-                              ),
-                            ),
-                          ),
-                        ),
-                      ),
-                    ),
-                  ),
-                ),
-              ),
-            ),
-          ),
-        ),
-      ),
-    )
+    verdict-passes refusedBy (refusedBy 0 (spot 0 0)) (textChecks short x)
+    (p 2
+    then p 10 then p 11 then p 12 then p 13 then p 14 then p 15 then p 16
+    then p 20 then p 21 then p 22 then p 23 then p 24 then p 25 then p 26 then p 27
+    then p 30 then p 31 then p 32 then p 33 then p 34 then tt)

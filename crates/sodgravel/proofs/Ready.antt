@@ -70,7 +70,8 @@ asks-low r h = go (is F r) refl
     go true e = rw (e, asksOf) (h e)
     go false e = rw (e, asksOf) tt
 
-entries-low : (i : ℕ) (rs : List Row) → Each (λ r. is F r ≡ true → shownAs r ≤ 255) rs → Each (λ e. LowLabel (e .asks)) (entriesFrom i rs)
+entries-low : (i : ℕ) (rs : List Row) → Each (λ r. is F r ≡ true → shownAs r ≤ 255) rs
+    → Each (λ e. LowLabel (e .asks)) (entriesFrom i rs)
 entries-low i [] h = tt
 entries-low i (r ∷ rs) h = (asks-low r (h .0), entries-low (suc i) rs (h .1))
 

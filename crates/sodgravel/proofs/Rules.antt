@@ -16,7 +16,8 @@ use Rattle.rules.specs.Schema.{is, queryType, check11, check12, check13, check1
 use Rattle.rules.specs.Graph.{nodesOf, check21, check22, check23, check24, check25, check26}
 use Rattle.rules.specs.Query.{check31, steps, check32, check33, check34}
 use Rattle.rules.specs.Eval.{meetsFork}
-use Rattle.rules.specs.Answer.{Texts, worldOf, schemaRows, graphRows, queryRows, schemaIn, graphIn, treeOf, rootOf, Numbered, schemaChecks, graphChecks, queryChecks, checks, answerChecks, largestRoom}
+use Rattle.rules.specs.Answer.{Texts, worldOf, schemaRows, graphRows, queryRows, schemaIn, graphIn, treeOf, rootOf}
+use Rattle.rules.specs.Answer.{Numbered, schemaChecks, graphChecks, queryChecks, checks, answerChecks, largestRoom}
 use Rattle.rules.specs.Contract.{placeOf, Passed}
 use Rattle.rules.specs.declared.Spot.{Spot}
 use Rattle.rules.proofs.Bools.{some-none}
@@ -24,12 +25,11 @@ use Rattle.rules.proofs.Clean.{Each, whole-none}
 use Rattle.rules.proofs.Places.{Passes, passes-at, passed-tail, place-is-first}
 use Rattle.rules.proofs.Outcomes.{answer-checks-rise}
 use Rattle.rules.proofs.Single.{no-fork-met}
-use Rattle.sodgravel.specs.Ruled.{RulesMet, FormPlace, StepPlace, PlaceFixed, at-1, at-2, at-10, at-11, at-12, at-13, at-14, at-15, at-16, at-20, at-21, at-22, at-23, at-24, at-25, at-26, at-27, at-30, at-31, at-32, at-33, at-34, at-40}
-
--- what is known of a first check, and of those behind it
-infixr 20 _then_
-abbrev _then_ : {A B : Type 0} → A → B → A × B
-a then b = (a, b)
+use Rattle.sodgravel.proofs.Passing.{_then_}
+use Rattle.sodgravel.specs.Ruled.{RulesMet, FormPlace, StepPlace, PlaceFixed, at-1, at-2, at-40}
+use Rattle.sodgravel.specs.Ruled.{at-10, at-11, at-12, at-13, at-14, at-15, at-16}
+use Rattle.sodgravel.specs.Ruled.{at-20, at-21, at-22, at-23, at-24, at-25, at-26, at-27}
+use Rattle.sodgravel.specs.Ruled.{at-30, at-31, at-32, at-33, at-34}
 
 -- ---- the rules met
 

@@ -13,14 +13,14 @@ use Rattle.rules.specs.Tree.{Entry, siblings}
 use Rattle.rules.specs.World.{World}
 use Rattle.rules.specs.Eval.{eval}
 use Rattle.rules.specs.Sizing.{start, visits, total, cap}
-use Rattle.rules.specs.Answer.{Texts, queryRows, worldOf, rootOf, response, Numbered, checks, evalChecks, verdict, outcome, refused, told, sized, space, fitted, written}
+use Rattle.rules.specs.Answer.{Texts, queryRows, worldOf, rootOf, response}
+use Rattle.rules.specs.Answer.{Numbered, checks, evalChecks, verdict, outcome, refused, told, sized, space, fitted, written}
 use Rattle.rules.specs.Contract.{Passed}
 use Rattle.rules.specs.declared.Spot.{Spot}
 use Rattle.rules.specs.declared.Outcome.{Outcome}
 use Rattle.rules.proofs.Clean.{whole-none}
 use Rattle.rules.proofs.Places.{passed-accepts}
-use Rattle.rules.proofs.Outcomes.{checks-rise, SizeCase, size-case, sized-passed, accepted-exactly, answered-by-sizing, answered-too-large-room}
-use Rattle.rules.proofs.Outcomes.SizeCase.{accepts, refuses}
+use Rattle.rules.proofs.Outcomes.{checks-rise, sized-passed, accepted-exactly, answered-by-sizing, answered-too-large-room}
 use Rattle.checks.specs.declared.Verdict.{Verdict}
 use Rattle.checks.specs.Verdict.{judged, textChecks, refusedBy as judgedBy}
 use Rattle.checks.proofs.Judging.{judged-at, judged-past}
@@ -31,7 +31,7 @@ use Rattle.sizing.specs.declared.Tally.{Tally}
 use Rattle.sizing.specs.Measure.{measured}
 use Rattle.evaluate.specs.Evaluate.{selected}
 use Rattle.evaluate.specs.Write.{Room, Wrote}
-use Rattle.sodgravel.specs.Calls.{anyShort, sizedIn, answeredIn, bufferIn, cleared, refusedBy, Measured, Responded}
+use Rattle.sodgravel.specs.Calls.{anyShort, sizedIn, limitedIn, answeredIn, bufferIn, cleared, refusedBy, Measured, Responded}
 use Rattle.sodgravel.proofs.Passing.{rows-short, rows-long, texts-long, passed-all, judged-none}
 use Rattle.sodgravel.proofs.Ready.{worldIn, rootIn, Readable, readable}
 
@@ -48,18 +48,49 @@ module _ (size room : ℕ) (buffer : List ℕ) where
       go true e = e ∙ sym (le-leb size (space room buffer) (omega (arith, leb-true size (length buffer) e)))
       go false e = e ∙ sym (lt-leb size (space room buffer) (omega (arith, leb-false size (length buffer) e)))
 
+module _ (room : ℕ) (buffer : List ℕ) (o : Outcome) where
+  abbrev k : ℕ
+  k = space room buffer
+
+  -- an outcome whose size exceeds the room, and one whose size does not
+  pub limited : leb (o .size) k ≡ false → outcome 50 0 (o .size) (o .visits) ≡ limitedIn room buffer o
+  unfolding limitedIn
+  limited h = sym (rw (lt-ltb k (o .size) (leb-false (o .size) k h), fitted))
+
+  pub unlimited : leb (o .size) k ≡ true → o ≡ limitedIn room buffer o
+  unfolding limitedIn
+  unlimited h = sym (rw (le-ltb k (o .size) (leb-true (o .size) k h), fitted))
+
+  -- what is accepted in the room
+  within-size : limitedIn room buffer o .number ≡ 0 → o .size ≤ k
+  within-size = go (leb (o .size) k) refl
+    where
+      go : (b : Bool) → leb (o .size) k ≡ b → limitedIn room buffer o .number ≡ 0 → o .size ≤ k
+      go true e z = leb-true (o .size) k e
+      go false e z = absurd (omega (arith, ap (λ (u : Outcome). u .number) (limited e)))
+
+  within-same : limitedIn room buffer o .number ≡ 0 → o ≡ limitedIn room buffer o
+  within-same z = unlimited (le-leb (o .size) k (within-size z))
+
 -- ---- zeroing depends on the length alone
 
-pub cleared-same : (a b : List ℕ) → length b ≡ length a → cleared b ≡ cleared a
+pub cleared-as : (a b c : List ℕ) → c ≡ cleared b → length b ≡ length a → c ≡ cleared a
 unfolding cleared
-cleared-same a b h = ap (λ (n : ℕ). replicate n 0) h
+cleared-as a b c e h = e ∙ ap (λ (n : ℕ). replicate n 0) h
+
+-- ---- a refusal writes nothing
+
+pub unwritten : (n : ℕ) (r buffer : List ℕ) → (n ≡ 0 → ⊥) → written n r buffer ≡ buffer
+unwritten zero r buffer h = absurd (h refl)
+unwritten (suc n) r buffer h = refl
 
 -- ---- a refusal by the checks of the texts decides
 
 verdict-past : (t : Outcome) (c : Numbered) (cs : List Numbered) → c .place ≡ none → verdict refused t (c ∷ cs) ≡ verdict refused t cs
 verdict-past t c cs e = rw (e, verdict)
 
-verdict-at : (t : Outcome) (c : Numbered) (cs : List Numbered) (p : Spot) → c .place ≡ some p → verdict refused t (c ∷ cs) ≡ refused (c .number) p
+verdict-at : (t : Outcome) (c : Numbered) (cs : List Numbered) (p : Spot) → c .place ≡ some p
+    → verdict refused t (c ∷ cs) ≡ refused (c .number) p
 verdict-at t c cs p e = rw (e, verdict)
 
 abbrev refusedAs : Verdict → Outcome
@@ -142,106 +173,85 @@ from-head r buffer =
     let same : 0 + length r ≡ length r = omega arith in
     ap (λ (n : ℕ). r ++ drop n buffer) same
 
--- ---- answering, from the outcome of sizing
-
-module _ (x : Texts) (before after : Lent) (m : List ℕ) (o : Outcome) (s : Measured x before after m o) where
-  accepted-passed : o .number ≡ 0 → Passed (checks (anyShort before m) x)
-  unfolding sizedIn
-  accepted-passed z = accepted-exactly (anyShort before m) x .0 (ap (λ (u : Outcome). u .number) (sym (s .is)) ∙ z)
-
-  none-short : o .number ≡ 0 → anyShort before m ≡ false
-  none-short z = whole-none (anyShort before m) (accepted-passed z 2)
-
-  -- the areas were long enough, and the tables can still be read
-  pub still-long : o .number ≡ 0 → Long before
-  still-long z = long-areas before (texts-long before m (none-short z))
-
-  pub still-readable : o .number ≡ 0 → Readable x after
-  unfolding judgedBy
-  still-readable z =
-      let same : anyShort before m ≡ tooShortOf before = none-short z ∙ sym (texts-long before m (none-short z)) in
-      let j : Judged x before after (judgedBy 0 (spot 0 0)) =
-      record {
-        is = sym (judged-none (tooShortOf before) x (subst (λ (b : Bool). Passed (checks b x)) same (accepted-passed z)));
-        held = λ _. s .held z;
-      } in
-      readable x before after (judgedBy 0 (spot 0 0)) j refl
-
-  module _ (room : ℕ) (buffer : List ℕ) where
-    unfit : (n : ℕ) (p : Spot) → fitted (space room buffer) (refused n p) ≡ refused n p
-    unfit n p = rw (le-ltb (space room buffer) 0 (omega arith), fitted)
-
-    -- a refusal of sizing stands
-    pub responded-refused : (o .number ≡ 0 → ⊥) → Responded x before m room buffer buffer o
-    unfolding sizedIn
-    responded-refused h = record { is = go (size-case (anyShort before m) x); left = unwritten (o .number) refl }
-      where
-        unwritten : (n : ℕ) → o .number ≡ n → buffer ≡ written (o .number) (response x) buffer
-        unwritten zero e = absurd (h e)
-        unwritten (suc n) e = rw (e, written)
-
-        go : SizeCase (anyShort before m) x → o ≡ fitted (space room buffer) (sized (anyShort before m) x)
-        go (accepts p e) = absurd (h (ap (λ (u : Outcome). u .number) (s .is ∙ e)))
-        go (refuses n p l above e) = s .is ∙ e ∙ sym (ap (fitted (space room buffer)) e ∙ unfit n p)
-
-    -- a size that does not fit
-    pub responded-large : (r : Outcome) → leb (o .size) (space room buffer) ≡ false → r ≡ outcome 50 0 (o .size) (o .visits)
-        → Responded x before m room buffer buffer r
-    responded-large r h e =
-        let k = space room buffer in
-        record {
-          is = e ∙ sym (ap (fitted k) (sym (s .is)) ∙ rw (lt-ltb k (o .size) (leb-false (o .size) k h), fitted));
-          left = sym (ap (λ (u : Outcome). written (u .number) (response x) buffer) e);
-        }
-
-    module _ (z : o .number ≡ 0) (h : leb (o .size) (space room buffer) ≡ true) where
-      -- the response is as long as the size says, for the room is below the cap
-      sized-is : room ≤ 16384 → length (response x) ≤ length buffer
-      unfolding sizedIn
-      sized-is r =
-          let e = s .is ∙ sized-passed (anyShort before m) x (accepted-passed z) in
-          let k : o .size ≡ cap (length (response x)) = ap (λ (u : Outcome). u .size) e in
-          omega (arith, leb-true (o .size) (space room buffer) h)
-
-      module _ (root : ℕ) (from : root ≡ rootIn after) where
-        abbrev tokens : List ℕ
-        tokens = selected (worldIn after) (after .query) 0 0 root
-
-        selected-response : tokens ≡ response x
-        unfolding selected
-        selected-response = let y = still-readable z in λ i. eval (y .world i) (siblings (y .entered i) 0) ((from ∙ y .start) i)
-
-        pub has-room : room ≤ 16384 → Room buffer 0 tokens
-        has-room r = record { fits = omega (arith, ap length selected-response, sized-is r) }
-
-        pub responded-written : (left : List ℕ) (behind : ℕ) → Wrote buffer 0 tokens left behind → Responded x before m room buffer left o
-        responded-written left behind w =
-            let k = space room buffer in
-            record {
-              is = s .is ∙ sym (ap (fitted k) (sym (s .is)) ∙ rw (le-ltb k (o .size) (leb-true (o .size) k h), fitted) (s .is));
-              left = w .content ∙ from-head tokens buffer ∙ ap (λ (r : List ℕ). r ++ drop (length r) buffer) selected-response
-                  ∙ sym (ap (λ (n : ℕ). written n (response x) buffer) z);
-            }
-
--- ---- the public call
+-- ---- answering
 
 module _ (x : Texts) (before : Lent) (m : List ℕ) (room : ℕ) (buffer : List ℕ) (o : Outcome) where
+  refused-as : o ≡ answeredIn before m x room buffer → (o .number ≡ 0 → ⊥) → Responded x before m room buffer buffer o
+  unfolding answeredIn bufferIn
+  refused-as e h =
+      record { is = e; left = sym (unwritten _ (response x) buffer (λ z. h (ap (λ (u : Outcome). u .number) e ∙ z))) }
+
   -- a room that is too large
-  module _ (large : 16384 < room) (e : o ≡ refusedBy 1) where
-    pub answered-large : o ≡ answeredIn before m x room buffer
-    unfolding answeredIn refusedBy
-    answered-large = e ∙ sym (answered-too-large-room (anyShort before m) x room buffer large)
+  pub responded-large : 16384 < room → o ≡ refusedBy 1 → Responded x before m room buffer buffer o
+  unfolding answeredIn refusedBy
+  responded-large h e =
+      refused-as (e ∙ sym (answered-too-large-room (anyShort before m) x room buffer h)) (λ z. omega (arith, ap (λ (u : Outcome). u .number) e))
 
-    pub buffer-large : buffer ≡ bufferIn before m x room buffer
-    unfolding bufferIn refusedBy
-    buffer-large =
-        sym (ap (λ (u : Outcome). written (u .number) (response x) buffer) (answered-too-large-room (anyShort before m) x room buffer large))
+-- from the outcome of sizing
+module _ (x : Texts) (before after : Lent) (m : List ℕ) (s : Outcome) (measures : Measured x before after m s)
+    (room : ℕ) (buffer : List ℕ) (small : room ≤ 16384) (o : Outcome) (limits : o ≡ limitedIn room buffer s) where
+  answered-is : o ≡ answeredIn before m x room buffer
+  unfolding answeredIn sizedIn limitedIn
+  answered-is =
+      limits ∙ ap (limitedIn room buffer) (measures .is) ∙ sym (answered-by-sizing (anyShort before m) x room buffer small)
 
-  module _ (after : List ℕ) (small : room ≤ 16384) (s : Responded x before m room buffer after o) where
-    pub answered-is : o ≡ answeredIn before m x room buffer
-    unfolding answeredIn sizedIn
-    answered-is = s .is ∙ sym (answered-by-sizing (anyShort before m) x room buffer small)
+  -- a refusal by the checks or for size
+  pub responded-refused : (o .number ≡ 0 → ⊥) → Responded x before m room buffer buffer o
+  responded-refused h = refused-as x before m room buffer o answered-is h
 
-    pub buffer-is : after ≡ bufferIn before m x room buffer
-    unfolding bufferIn answeredIn
-    buffer-is = s .left ∙ ap (λ (u : Outcome). written (u .number) (response x) buffer) answered-is
+  module _ (z : o .number ≡ 0) where
+    within : limitedIn room buffer s .number ≡ 0
+    within = ap (λ (u : Outcome). u .number) (sym limits) ∙ z
+
+    accepted : s .number ≡ 0
+    accepted = ap (λ (u : Outcome). u .number) (within-same room buffer s within) ∙ within
+
+    passed : Passed (checks (anyShort before m) x)
+    unfolding sizedIn
+    passed = accepted-exactly (anyShort before m) x .0 (ap (λ (u : Outcome). u .number) (sym (measures .is)) ∙ accepted)
+
+    none-short : anyShort before m ≡ false
+    none-short = whole-none (anyShort before m) (passed 2)
+
+    -- the areas were long enough, and the tables can still be read
+    pub still-long : Long before
+    still-long = long-areas before (texts-long before m none-short)
+
+    pub still-readable : Readable x after
+    unfolding judgedBy
+    still-readable =
+        let same : anyShort before m ≡ tooShortOf before = none-short ∙ sym (texts-long before m none-short) in
+        let j : Judged x before after (judgedBy 0 (spot 0 0)) =
+        record {
+          is = sym (judged-none (tooShortOf before) x (subst (λ (b : Bool). Passed (checks b x)) same passed));
+          held = λ _. measures .held accepted;
+        } in
+        readable x before after (judgedBy 0 (spot 0 0)) j refl
+
+    -- the response is as long as the size says, for the room is below the cap
+    response-fits : length (response x) ≤ length buffer
+    unfolding sizedIn
+    response-fits =
+        let e = measures .is ∙ sized-passed (anyShort before m) x passed in
+        let k : s .size ≡ cap (length (response x)) = ap (λ (u : Outcome). u .size) e in
+        omega (arith, within-size room buffer s within)
+
+    module _ (root : ℕ) (from : root ≡ rootIn after) where
+      abbrev tokens : List ℕ
+      tokens = selected (worldIn after) (after .query) 0 0 root
+
+      selected-response : tokens ≡ response x
+      unfolding selected
+      selected-response = let y = still-readable in λ i. eval (y .world i) (siblings (y .entered i) 0) ((from ∙ y .start) i)
+
+      pub has-room : Room buffer 0 tokens
+      has-room = record { fits = omega (arith, ap length selected-response, response-fits) }
+
+      pub responded-written : (left : List ℕ) (behind : ℕ) → Wrote buffer 0 tokens left behind → Responded x before m room buffer left o
+      unfolding answeredIn bufferIn
+      responded-written left behind w =
+          record {
+            is = answered-is;
+            left = w .content ∙ from-head tokens buffer ∙ ap (λ (r : List ℕ). r ++ drop (length r) buffer) selected-response
+                ∙ sym (ap (λ (n : ℕ). written n (response x) buffer) (ap (λ (u : Outcome). u .number) (sym answered-is) ∙ z));
+          }

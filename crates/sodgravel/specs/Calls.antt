@@ -4,7 +4,7 @@ use mathlib.Core.Path.{_≡_}
 use mathlib.Core.Bool.{Bool}
 use mathlib.Core.List.{List, [], _∷_, _++_}
 use Rattle.rules.specs.Search.{spot}
-use Rattle.rules.specs.Answer.{Texts, Area, tooShort, sized, answered, bufferAfter, zeroed, refused, fitted, space, written, response}
+use Rattle.rules.specs.Answer.{Texts, Area, tooShort, sized, answered, bufferAfter, zeroed, refused, fitted, space}
 use Rattle.rules.specs.declared.Outcome.{Outcome}
 use Rattle.judge.specs.Texts.{Lent, workAreas, Holding}
 
@@ -36,12 +36,16 @@ refusedBy n = refused n (spot 0 0)
 
 -- ---- inside
 
+-- the outcome of answering, by that of sizing
+unfoldable pub limitedIn : ℕ → List ℕ → Outcome → Outcome
+limitedIn room buffer o = fitted (space room buffer) o
+
 -- The outcome of sizing, while the areas still hold the tables.
 pub record Measured (x : Texts) (before after : Lent) (m : List ℕ) (o : Outcome) : Type 0 where
   pub is : o ≡ sizedIn before m x
   pub held : o .number ≡ 0 → Holding x before after
 
--- The outcome of answering, by that of sizing, where the room given is not above 16,384; and the response buffer afterwards.
+-- The outcome of answering and the response buffer afterwards, while the areas still hold the tables.
 pub record Responded (x : Texts) (before : Lent) (m : List ℕ) (room : ℕ) (buffer after : List ℕ) (o : Outcome) : Type 0 where
-  pub is : o ≡ fitted (space room buffer) (sizedIn before m x)
-  pub left : after ≡ written (o .number) (response x) buffer
+  pub is : o ≡ answeredIn before m x room buffer
+  pub left : after ≡ bufferIn before m x room buffer

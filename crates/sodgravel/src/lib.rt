@@ -1,10 +1,9 @@
 // The public calls: one sizes a query, one answers it. Each makes all checks, and neither asks anything of its caller.
 ghost use mathlib.Core.Path.{_≡_};
-ghost use Prim.Native.Nat.{_≤_};
 ghost use lib.Dec.{leb};
 ghost use Rattle.rules.specs.Answer.{space};
 ghost use Rattle.judge.specs.Texts.{texts, lent};
-ghost use Rattle.sodgravel.specs.Calls.{sizedIn, answeredIn, bufferIn, cleared, refusedBy, Measured, Responded};
+ghost use Rattle.sodgravel.specs.Calls.{sizedIn, limitedIn, answeredIn, bufferIn, cleared, refusedBy, Measured, Responded};
 use rules::Outcome;
 
 // A refusal at place 0.
@@ -27,6 +26,21 @@ fn fits(size: u32, room: u32, out: &[u32]) -> bool
         return false;
     }
     size as usize <= out.len()
+}
+
+// The outcome of answering, by that of sizing: a size that does not fit is 50.
+fn limit(o: Outcome, room: u32, out: &[u32]) -> Outcome
+    ensures { λ r. ⌜ r ≡ limitedIn room (now (out .entry)) o ⌝ }
+{
+    if !fits(o.size, room, out) {
+        return Outcome {
+            number: 50,
+            place: 0,
+            size: o.size,
+            visits: o.visits,
+        };
+    }
+    o
 }
 
 // Zeroes every work area.
@@ -88,8 +102,8 @@ fn measure(
     }
 }
 
-// The outcome of answering in a room that is not above 16,384, and the response: sizes first, and writes no token of a response
-// that does not fit.
+// The outcome of answering, and the response: sizes first, and writes no token of a response that does not fit. The areas are
+// left as they are.
 fn respond(
     schema: &[u8],
     graph: &[u8],
@@ -103,20 +117,15 @@ fn respond(
     room: u32,
     out: &mut [u32],
 ) -> Outcome
-    requires { ⌜ room ≤ 16384 ⌝ }
     ensures { λ r. ⌜ Responded (texts (now (schema .entry)) (now (graph .entry)) (now (query .entry))) (lent (now (a .entry)) (now (g .entry)) (now (p .entry)) (now (v .entry)) (now (q .entry))) (now (m .entry)) room (now (out .entry)) (now (out .exit)) r ⌝ }
 {
-    let o = measure(schema, graph, query, a, g, p, v, q, m);
+    if 16384 < room {
+        return refuse(1);
+    }
+    let s = measure(schema, graph, query, a, g, p, v, q, m);
+    let o = limit(s, room, out);
     if o.number != 0 {
         return o;
-    }
-    if !fits(o.size, room, out) {
-        return Outcome {
-            number: 50,
-            place: 0,
-            size: o.size,
-            visits: o.visits,
-        };
     }
     let root = world::query_node(a, g);
     evaluate::selection(a, g, p, &v[..8200], q, 0, 0, root, out, 0);
@@ -171,10 +180,6 @@ pub fn answer(
     ensures { λ _. ⌜ now (q .exit) ≡ cleared (now (q .entry)) ⌝ }
     ensures { λ _. ⌜ now (m .exit) ≡ cleared (now (m .entry)) ⌝ }
 {
-    if 16384 < room {
-        clear_all(a, g, p, v, q, m);
-        return refuse(1);
-    }
     let o = respond(schema, graph, query, a, g, p, v, q, m, room, out);
     clear_all(a, g, p, v, q, m);
     o

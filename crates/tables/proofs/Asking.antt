@@ -32,9 +32,9 @@ pub record Asked (s : List ℕ) (count first here : ℕ) : Type 0 where
   pub few : count ≤ here
   pub inside : here ≤ length s
 
-pub asked-start : (s : List ℕ) → Each Plain (lines s) → Asked s 0 0 0
+pub asked-start : {s : List ℕ} → Each Plain (lines s) → Asked s 0 0 0
 unfolding queriesIn asked
-asked-start s p =
+asked-start {s} p =
     record {
       done = ap (λ (n : ℕ). queries n (at (nth (is Q) (rows s) 0) 0)) (omega arith);
       none = λ e. refl;
@@ -57,7 +57,7 @@ module _ (x : Row) (rs : List Row) where
   unfolding asked
   without count first e = simp e
 
-module _ (s : List ℕ) (count first here : ℕ) (f : Asked s count first here) (r : Read) (t : Turn s here r) where
+module _ {s : List ℕ} {count first here : ℕ} (f : Asked s count first here) {r : Read} (t : Turn s here r) where
   abbrev x : Row
   x = row (lineAt s here)
 
@@ -106,9 +106,9 @@ module _ (s : List ℕ) (count first here : ℕ) (f : Asked s count first here) 
         inside = t .inside;
       }
 
-pub asked-all : (s : List ℕ) (count first here : ℕ) → Asked s count first here → length s ≤ here
+pub asked-all : {s : List ℕ} {count first here : ℕ} → Asked s count first here → length s ≤ here
     → record { count = count; first = first } ≡ queriesIn (rows s)
 unfolding asked
-asked-all s count first here f h =
+asked-all {s} {count} {first} {here} f h =
     sym (f .done ∙ ap (asked count first) (rows-end s here h) ∙ ap (λ (n : ℕ). queries n (cond (eqb count 0) 0 first)) (omega arith)
     ∙ ap (queries count) (by-test (eqb count 0) (λ e. simp e (sym (f .none (eqb-true count 0 e)))) (λ e. simp e)))

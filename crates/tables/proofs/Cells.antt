@@ -12,7 +12,7 @@ use Rattle.rules.specs.Lists.{those, keepIf, each, sumOf}
 use Rattle.rules.specs.Text.{Row, noRow}
 use Rattle.rules.specs.Schema.{nth}
 use Rattle.rules.proofs.Clean.{Each}
-use Rattle.text.specs.Line.{padded}
+use Rattle.text.proofs.Rows.{padded-length}
 use Rattle.tables.specs.Layout.{narrow, wide, belongs, cells, width, valued, table, counted}
 use Rattle.tables.proofs.Those.{those-append}
 
@@ -70,15 +70,17 @@ module _ (w : ℕ) where
 
 -- ---- the cells of a row
 
-pub padded-length : (k : ℕ) (ns : List ℕ) → length (padded k ns) ≡ k
-unfolding padded
-padded-length zero ns = refl
-padded-length (suc k) [] = ap suc (padded-length k [])
-padded-length (suc k) (n ∷ ns) = ap suc (padded-length k ns)
-
 pub wide-length : (tag : ℕ) (r : Row) → length (wide tag r) ≡ 14
 unfolding wide
 wide-length tag r = omega (arith, padded-length 12 (r .numbers))
+
+pub narrow-width : (k : ℕ) → leb k 7 ≡ true → width k ≡ 3
+unfolding width
+narrow-width k h = rw h
+
+pub wide-width : (k : ℕ) → leb k 7 ≡ false → width k ≡ 14
+unfolding width
+wide-width k h = rw h
 
 pub cells-length : (k start : ℕ) (r : Row) → length (cells k start r) ≡ width k
 unfolding cells width narrow

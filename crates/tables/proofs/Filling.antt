@@ -28,9 +28,9 @@ pub record Filled (k : ℕ) (s : List ℕ) (base : ℕ) (area₀ area : List ℕ
   pub under : start ≤ here
   pub inside : here ≤ length s
 
-pub filled-start : (k : ℕ) (s : List ℕ) (base : ℕ) (area : List ℕ) → Each Plain (lines s)
+pub filled-start : {k : ℕ} {s : List ℕ} {base : ℕ} {area : List ℕ} → Each Plain (lines s)
     → base + length (table k 0 (rows s)) ≤ length area → Filled k s base area area 0 0 base 0
-filled-start k s base area p h =
+filled-start p h =
     record {
       done = refl;
       count = omega arith;
@@ -67,8 +67,8 @@ module _ (k : ℕ) (x : Row) (rs : List Row) where
   counted-without b = simp b
 
 -- one turn
-module _ (k : ℕ) (s : List ℕ) (base : ℕ) (area₀ area : List ℕ) (n start place here : ℕ) (f : Filled k s base area₀ area n start place here)
-    (r : Read) (t : Turn s here r) where
+module _ {k : ℕ} {s : List ℕ} {base : ℕ} {area₀ area : List ℕ} {n start place here : ℕ} (f : Filled k s base area₀ area n start place here)
+    {r : Read} (t : Turn s here r) where
   abbrev x : Row
   x = row (lineAt s here)
 
@@ -89,7 +89,7 @@ module _ (k : ℕ) (s : List ℕ) (base : ℕ) (area₀ area : List ℕ) (n star
   unfolding values
   filled-values = let m = t .few in let u = f .under in omega (arith, values-are, valued-most x)
 
-  module _ (b : Bool) (e : b ≡ belongs k (lettered (r .letter))) where
+  module _ {b : Bool} (e : b ≡ belongs k (lettered (r .letter))) where
     belonging : belongs k x ≡ b
     belonging = sym (e ∙ belongs-read x (r .next) r (t .read) k)
 
@@ -108,14 +108,15 @@ module _ (k : ℕ) (s : List ℕ) (base : ℕ) (area₀ area : List ℕ) (n star
       pub filled-room : place + width k ≤ length area
       filled-room = omega (arith, long)
 
-      pub filled-on : (area′ : List ℕ) (v place′ : ℕ) → v ≡ valuesIn (r .letter) (r .count) (getD (r .nums) 3 0) → place′ ≡ place + width k
-          → area′ ≡ laid place (cellsOf k start r) area → Filled k s base area₀ area′ (n + 1) (start + v) place′ (r .next)
+      pub filled-on : {area′ : List ℕ} {v place′ : ℕ} → v ≡ valuesIn (r .letter) (r .count) (getD (r .nums) 3 0)
+          → place′ ≡ place + width k → area′ ≡ laid place (cellsOf k start r) area → Filled k s base area₀ area′ (n + 1) (start + v) place′ (r .next)
       unfolding values
-      filled-on area′ v place′ ev ep ea =
+      filled-on {area′} {v} {place′} ev ep ea =
           let w = cells-length k start x in
           let rest = table k (start + valued x) behind in
           let vx : v ≡ valued x = ev ∙ values-are in
-          let a : area′ ≡ laid place (cells k start x) area = ea ∙ ap (λ (l : List ℕ). laid place l area) (cells-read x (r .next) r (t .read) k start) in
+          let a : area′ ≡ laid place (cells k start x) area =
+          ea ∙ ap (λ (l : List ℕ). laid place l area) (cells-read x (r .next) r (t .read) k start) in
           let q : place + length (cells k start x) ≡ place′ = omega arith in
           let g = long in
           let m : length area′ ≡ length area = ap length a ∙ laid-length place (cells k start x) area (omega arith) in
@@ -140,10 +141,10 @@ module _ (k : ℕ) (s : List ℕ) (base : ℕ) (area₀ area : List ℕ) (n star
           }
 
     module _ (y : b ≡ false) where
-      pub filled-by : (v : ℕ) → v ≡ valuesIn (r .letter) (r .count) (getD (r .nums) 3 0)
+      pub filled-by : {v : ℕ} → v ≡ valuesIn (r .letter) (r .count) (getD (r .nums) 3 0)
           → Filled k s base area₀ area n (start + v) place (r .next)
       unfolding values
-      filled-by v ev =
+      filled-by {v} ev =
           let vx : v ≡ valued x = ev ∙ values-are in
           let z : table k start (rows (drop here s)) ≡ table k (start + v) behind =
           ap (table k start) (t .rest) ∙ table-without k x behind start (belonging ∙ y) ∙ ap (λ (i : ℕ). table k (start + i) behind) (sym vx) in
@@ -162,7 +163,7 @@ module _ (k : ℕ) (s : List ℕ) (base : ℕ) (area₀ area : List ℕ) (n star
           }
 
 -- the end of the text
-module _ (k : ℕ) (s : List ℕ) (base : ℕ) (area₀ area : List ℕ) (n start place here : ℕ) (f : Filled k s base area₀ area n start place here)
+module _ {k : ℕ} {s : List ℕ} {base : ℕ} {area₀ area : List ℕ} {n start place here : ℕ} (f : Filled k s base area₀ area n start place here)
     (h : length s ≤ here) where
   pub filled-count : n ≡ counted k (rows s)
   unfolding counted

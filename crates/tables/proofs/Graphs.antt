@@ -16,7 +16,7 @@ use Rattle.tables.specs.Read.{cell, wideAt, startsAt, targetsAt, valuesA
 use Rattle.tables.proofs.Those.{any-those, kept-passing}
 use Rattle.tables.proofs.Cells.{valuesBefore}
 use Rattle.tables.proofs.Narrow.{narrow-at}
-use Rattle.tables.proofs.Wide.{wide-tag, wide-count, wide-number}
+use Rattle.tables.proofs.Wide.{StandsWide, wide-tag, wide-count, wide-number}
 use Rattle.tables.proofs.Labelling.{edge-labelled, property-labelled}
 use Rattle.tables.proofs.Areas.{value-part, row-read, front-read, read-starts, any-read, edges-stand, nodes-stand, properties-stand, node-count, edge-count, property-count}
 pub use Rattle.tables.proofs.Labelling.{Labelled, Formed, graph-formed}
@@ -29,38 +29,29 @@ formed-front : (ps rs : List Row) → Each Formed (ps ++ rs) → Each Formed ps
 formed-front [] rs f = tt
 formed-front (p ∷ ps) rs f = (f .0, formed-front ps rs (f .1))
 
+-- a test of node, field, label, and target or list mark, the letter a part of the test
+front-among : (a : List ℕ) (k base : ℕ) (ps rs : List Row) → StandsWide a k base (ps ++ rs)
+    → ((j : ℕ) → j < counted k ps → Labelled (nth (belongs k) ps j)) → (t : ℕ → ℕ → Label → ℕ → Bool)
+    → any (onRead t a base) (countUp 0 (counted k ps)) ≡ any (λ r. belongs k r && onRow t r) ps
+unfolding counted
+front-among a k base ps rs s labelled t =
+    any-read a base (those (belongs k) ps) (λ j h. front-read a k base ps rs s j h (labelled j h)) t ∙ any-those (belongs k) (onRow t) ps
+
 module _ (n : ℕ) (ps rs : List Row) (room : 15880 ≤ n) (fits : GraphFits (ps ++ rs)) (formed : Each Formed (ps ++ rs)) where
-  pub edge-read : (j : ℕ) → j < counted 8 ps → RowRead (nodeArea n (ps ++ rs)) 1544 j (nth (is E) ps j)
-  unfolding counted belongs
-  edge-read j h =
-      front-read (nodeArea n (ps ++ rs)) 8 1544 ps rs (edges-stand n (ps ++ rs) room fits) j h
-      (edge-labelled ps (formed-front ps rs formed) j h)
-
-  pub edges-before : (t : ℕ → ℕ → Label → ℕ → Bool)
-      → any (onRead t (nodeArea n (ps ++ rs)) 1544) (countUp 0 (counted 8 ps)) ≡ any (onRow t) (those (is E) ps)
-  unfolding counted belongs
-  edges-before t = any-read (nodeArea n (ps ++ rs)) 1544 (those (is E) ps) edge-read t
-
-  -- the same, the letter a part of the test
   pub edges-among : (t : ℕ → ℕ → Label → ℕ → Bool)
       → any (onRead t (nodeArea n (ps ++ rs)) 1544) (countUp 0 (counted 8 ps)) ≡ any (λ r. is E r && onRow t r) ps
-  edges-among t = edges-before t ∙ any-those (is E) (onRow t) ps
+  unfolding counted belongs
+  edges-among t =
+      front-among (nodeArea n (ps ++ rs)) 8 1544 ps rs (edges-stand n (ps ++ rs) room fits)
+      (edge-labelled ps (formed-front ps rs formed)) t
 
 module _ (m : ℕ) (ps rs : List Row) (room : 14344 ≤ m) (fits : GraphFits (ps ++ rs)) (formed : Each Formed (ps ++ rs)) where
-  pub property-read : (j : ℕ) → j < counted 9 ps → RowRead (propertyArea m (ps ++ rs)) 8 j (nth (is P) ps j)
-  unfolding counted belongs
-  property-read j h =
-      front-read (propertyArea m (ps ++ rs)) 9 8 ps rs (properties-stand m (ps ++ rs) room fits) j h
-      (property-labelled ps (formed-front ps rs formed) j h)
-
-  pub properties-before : (t : ℕ → ℕ → Label → ℕ → Bool)
-      → any (onRead t (propertyArea m (ps ++ rs)) 8) (countUp 0 (counted 9 ps)) ≡ any (onRow t) (those (is P) ps)
-  unfolding counted belongs
-  properties-before t = any-read (propertyArea m (ps ++ rs)) 8 (those (is P) ps) property-read t
-
   pub properties-among : (t : ℕ → ℕ → Label → ℕ → Bool)
       → any (onRead t (propertyArea m (ps ++ rs)) 8) (countUp 0 (counted 9 ps)) ≡ any (λ r. is P r && onRow t r) ps
-  properties-among t = properties-before t ∙ any-those (is P) (onRow t) ps
+  unfolding counted belongs
+  properties-among t =
+      front-among (propertyArea m (ps ++ rs)) 9 8 ps rs (properties-stand m (ps ++ rs) room fits)
+      (property-labelled ps (formed-front ps rs formed)) t
 
 -- ---- the whole graph
 

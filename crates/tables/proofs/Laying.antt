@@ -7,25 +7,23 @@ use mathlib.Core.List.{List, [], _∷_}
 use lib.ListN.{length, set, replicate, length-replicate, length-set}
 use borrow.Author.Tests.{le-leb, lt-leb}
 use Rattle.rules.specs.Lists.{those, keepIf}
-use Rattle.rules.specs.Text.{Row, Q}
-use Rattle.rules.specs.Schema.{is}
-use Rattle.tables.specs.Layout.{laid, belongs, width, table, counted, allValues, schemaHead, schemaArea, nodeArea, propertyArea, valueArea, queryArea}
+use Rattle.rules.specs.Text.{Row}
+use Rattle.tables.specs.Layout.{laid, belongs, table, counted, allValues, schemaHead, schemaArea, nodeArea, propertyArea, valueArea, queryArea}
 use Rattle.tables.specs.Fill.{queriesIn, SchemaFits, GraphFits}
 use Rattle.tables.specs.declared.Queries.{Queries}
 use Rattle.tables.proofs.Laid.{laid-length}
-use Rattle.tables.proofs.Cells.{table-length}
+use Rattle.tables.proofs.Narrow.{narrow-length}
+use Rattle.tables.proofs.Wide.{wide-table-length}
 use Rattle.tables.proofs.Stores.{head-stored}
 
 -- ---- how long a table is
 
 module _ (k : ℕ) (rs : List Row) where
   narrow-long : k ≤ 7 → length (table k 0 rs) ≡ 3 * counted k rs
-  unfolding width
-  narrow-long h = table-length k 0 rs ∙ simp (le-leb k 7 h)
+  narrow-long h = narrow-length k rs (le-leb k 7 h)
 
   wide-long : 7 < k → length (table k 0 rs) ≡ 14 * counted k rs
-  unfolding width
-  wide-long h = table-length k 0 rs ∙ simp (lt-leb k 7 h)
+  wide-long h = wide-table-length k rs (lt-leb k 7 h)
 
 those-most : (p : Row → Bool) (rs : List Row) → length (those p rs) ≤ length rs
 those-most p [] = omega arith

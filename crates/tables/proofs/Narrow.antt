@@ -10,16 +10,12 @@ use borrow.Author.Tests.{ltb-true, ltb-false}
 use Rattle.rules.specs.Lists.{those, any}
 use Rattle.rules.specs.Text.{Row, noRow, at}
 use Rattle.rules.specs.Schema.{nth}
-use Rattle.tables.specs.Layout.{narrow, belongs, cells, width, table, counted}
+use Rattle.tables.specs.Layout.{narrow, belongs, cells, table, counted}
 use Rattle.tables.specs.Read.{cell, narrowAt, pairAt, firstAt, pairIn, firstIn, secondsIn}
 use Rattle.tables.proofs.Those.{those-front, any-passing, kept-passing}
-use Rattle.tables.proofs.Cells.{table-length, table-cell, counted-append, valuesBefore}
+use Rattle.tables.proofs.Cells.{narrow-width, table-length, table-cell, counted-append, valuesBefore}
 
 -- ---- narrow rows
-
-pub narrow-width : (k : ℕ) → leb k 7 ≡ true → width k ≡ 3
-unfolding width
-narrow-width k h = rw h
 
 pub narrow-cells : (k start : ℕ) (r : Row) → leb k 7 ≡ true → cells k start r ≡ narrow r
 unfolding cells

@@ -1,4 +1,4 @@
--- The numbers of a line, however many, read one after another and laid over an area; and the values of the properties. Assumes nothing.
+-- The numbers of a line, however many, read one after another and laid over an area. Assumes nothing.
 use Prim.Native.Nat.{ℕ, suc, _+_, _-_, _≤_, _<_}
 use native.Mathlib.Omega.{arith}
 use mathlib.Core.Path.{_≡_, refl, sym, ap, _∙_}
@@ -59,7 +59,13 @@ module _ (f : List ℕ) (fs : List (List ℕ)) where
   leading-stop : isNumber f ≡ false → leading (f ∷ fs) ≡ []
   leading-stop g = rw (g, leading)
 
-module _ (s : List ℕ) (i b : ℕ) (h : ByteAt s i b) where
+-- at position i a tab stands, and behind it the number v, whose field ends at n
+pub record Next (s : List ℕ) (i v n : ℕ) : Type 0 where
+  pub left : numbersLeft s i ≡ v ∷ numbersLeft s n
+  pub after : i < n
+  pub inside : n ≤ length s
+
+module _ {s : List ℕ} {i b : ℕ} (h : ByteAt s i b) where
   fields-here : b ≡ 9 → fieldsLeft (drop i s) ≡ fieldOf (drop (i + 1) s) ∷ fieldsLeft (leftOf (drop (i + 1) s))
   unfolding fieldsLeft
   fields-here e =
@@ -72,8 +78,8 @@ module _ (s : List ℕ) (i b : ℕ) (h : ByteAt s i b) where
       (λ q. ap (λ (bs : List ℕ). leading (fieldsLeft bs)) (first-is s i b h q) ∙ simp (ne-eqb b 9 t))
       (λ q. ap (λ (bs : List ℕ). leading (fieldsLeft bs)) (drop-of-length-le s q))
 
-  module _ (num : Num) (t : b ≡ 9) (p : num ≡ numberAt s (i + 1)) where
-    pub number-left : (v n : ℕ) → num ≡ Value v n → numbersLeft s i ≡ v ∷ numbersLeft s n
+  module _ {num : Num} (t : b ≡ 9) (p : num ≡ numberAt s (i + 1)) where
+    number-left : (v n : ℕ) → num ≡ Value v n → numbersLeft s i ≡ v ∷ numbersLeft s n
     unfolding numbersLeft
     number-left v n q =
         let w = value-here s (i + 1) v n (sym p ∙ q) in
@@ -82,18 +88,18 @@ module _ (s : List ℕ) (i b : ℕ) (h : ByteAt s i b) where
         ∙ ap (λ (m : ℕ). m ∷ leading (fieldsLeft (leftOf (drop (i + 1) s)))) (sym (w .value))
         ∙ ap (λ (bs : List ℕ). v ∷ leading (fieldsLeft bs)) (left-at s (i + 1) v n w)
 
-    pub fault-left : (k : ℕ) → num ≡ Fault k → numbersLeft s i ≡ []
+    pub fault-left : {k : ℕ} → num ≡ Fault k → numbersLeft s i ≡ []
     unfolding numbersLeft
-    fault-left k q =
+    fault-left {k} q =
         ap leading (fields-here t)
         ∙ leading-stop (fieldOf (drop (i + 1) s)) (fieldsLeft (leftOf (drop (i + 1) s))) (fault-here s (i + 1) k (sym p ∙ q))
 
-    pub number-after : (v n : ℕ) → num ≡ Value v n → (i < n) × (n ≤ length s)
-    number-after v n q =
+    pub next-number : {v n : ℕ} → num ≡ Value v n → Next s i v n
+    next-number {v} {n} q =
         let y = h .inside (omega arith) in
         let z = ends s (i + 1) v n num p q (omega arith) in
         let a = z .after in
-        (omega arith, z .inside)
+        record { left = number-left v n q; after = omega arith; inside = z .inside }
 
 -- ---- laying them
 
@@ -122,13 +128,13 @@ putting-start s at skip base area h p r =
       inside = omega arith;
     }
 
-module _ (s want : List ℕ) (skip base : ℕ) (area₀ area : List ℕ) (i k place : ℕ) (f : Putting s want skip base area₀ area i k place) where
-  module _ (v n : ℕ) (e : numbersLeft s i ≡ v ∷ numbersLeft s n) (w : (i < n) × (n ≤ length s)) where
+module _ {s want : List ℕ} {skip base : ℕ} {area₀ area : List ℕ} {i k place : ℕ} (f : Putting s want skip base area₀ area i k place) where
+  module _ {v n : ℕ} (w : Next s i v n) where
     put-left : skip ≤ k → drop (skip - k) (numbersLeft s i) ≡ v ∷ drop (skip - (k + 1)) (numbersLeft s n)
     put-left h =
         let y : skip - k ≡ 0 = omega arith in
         let z : 0 ≡ skip - (k + 1) = omega arith in
-        ap (λ (j : ℕ). drop j (numbersLeft s i)) y ∙ e ∙ ap (λ (j : ℕ). v ∷ drop j (numbersLeft s n)) z
+        ap (λ (j : ℕ). drop j (numbersLeft s i)) y ∙ w .left ∙ ap (λ (j : ℕ). v ∷ drop j (numbersLeft s n)) z
 
     pub putting-room : skip ≤ k → place < length area
     putting-room h = let r = f .room in omega (arith, ap length (put-left h))
@@ -140,6 +146,7 @@ module _ (s want : List ℕ) (skip base : ℕ) (area₀ area : List ℕ) (i k pl
         let r = f .room in
         let c = f .count in
         let u = f .under in
+        let g = w .after in
         record {
           done =
               f .done
@@ -150,22 +157,23 @@ module _ (s want : List ℕ) (skip base : ℕ) (area₀ area : List ℕ) (i k pl
           room = omega (arith, length-set area place v);
           same = length-set area place v ∙ f .same;
           under = omega arith;
-          inside = w .1;
+          inside = w .inside;
         }
 
     pub putting-by : k < skip → Putting s want skip base area₀ area n (k + 1) place
     putting-by h =
         let z : skip - k ≡ suc (skip - (k + 1)) = omega arith in
         let d : drop (skip - k) (numbersLeft s i) ≡ drop (skip - (k + 1)) (numbersLeft s n) =
-        ap (λ (j : ℕ). drop j (numbersLeft s i)) z ∙ ap (drop (suc (skip - (k + 1)))) e in
+        ap (λ (j : ℕ). drop j (numbersLeft s i)) z ∙ ap (drop (suc (skip - (k + 1)))) (w .left) in
         let u = f .under in
+        let g = w .after in
         record {
           done = f .done ∙ ap (λ (l : List ℕ). laid place l area) d;
           count = f .count ∙ ap (λ (l : List ℕ). place + length l) d;
           room = let r = f .room in omega (arith, ap length d);
           same = f .same;
           under = omega arith;
-          inside = w .1;
+          inside = w .inside;
         }
 
   module _ (e : numbersLeft s i ≡ []) where

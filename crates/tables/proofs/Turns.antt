@@ -15,6 +15,7 @@ use Rattle.text.proofs.Lines.{lines-here, next-inside, lines-end}
 use Rattle.text.proofs.Rows.{padded-at}
 use Rattle.tables.specs.Layout.{laid, narrow, wide, belongs, cells, width, valued}
 use Rattle.tables.specs.Fill.{whole, Plain, lettered, cellsOf, valuesIn}
+use Rattle.tables.proofs.Cells.{narrow-width, wide-width}
 
 -- ---- a line has at most as many numbers as bytes
 
@@ -141,25 +142,17 @@ module _ (l count n : ℕ) where
 -- ---- laying a row as it was read
 
 module _ (k : ℕ) where
-  width-narrow : k ≤ 7 → width k ≡ 3
-  unfolding width
-  width-narrow h = simp (le-leb k 7 h)
-
-  width-wide : 7 < k → width k ≡ 14
-  unfolding width
-  width-wide h = simp (lt-leb k 7 h)
-
   pub room-narrow : (p n : ℕ) → k ≤ 7 → p + width k ≤ n → p + 3 ≤ n
-  room-narrow p n h f = omega (arith, width-narrow h)
+  room-narrow p n h f = omega (arith, narrow-width k (le-leb k 7 h))
 
   pub room-wide : (p n : ℕ) → 7 < k → p + width k ≤ n → p + 14 ≤ n
-  room-wide p n h f = omega (arith, width-wide h)
+  room-wide p n h f = omega (arith, wide-width k (lt-leb k 7 h))
 
   pub next-narrow : (p : ℕ) → k ≤ 7 → p + 3 ≡ p + width k
-  next-narrow p h = omega (arith, width-narrow h)
+  next-narrow p h = omega (arith, narrow-width k (le-leb k 7 h))
 
   pub next-wide : (p : ℕ) → 7 < k → p + 14 ≡ p + width k
-  next-wide p h = omega (arith, width-wide h)
+  next-wide p h = omega (arith, wide-width k (lt-leb k 7 h))
 
   module _ (start : ℕ) (r : Read) (p : ℕ) (l : List ℕ) where
     pub laid-narrow : (a : List ℕ) → k ≤ 7 → a ≡ laid p (r .letter ∷ getD (r .nums) 0 0 ∷ getD (r .nums) 1 0 ∷ []) l

@@ -27,9 +27,9 @@ pub record Valued (s : List ℕ) (base : ℕ) (area₀ area : List ℕ) (place h
   pub under : place ≤ base + here
   pub inside : here ≤ length s
 
-pub valued-start : (s : List ℕ) (base : ℕ) (area : List ℕ) → Each Plain (lines s) → base + length (allValues (rows s)) ≤ length area
+pub valued-start : {s : List ℕ} {base : ℕ} {area : List ℕ} → Each Plain (lines s) → base + length (allValues (rows s)) ≤ length area
     → Valued s base area area base 0
-valued-start s base area p h =
+valued-start p h =
     record {
       done = refl;
       count = refl;
@@ -51,7 +51,7 @@ module _ (x : Row) (rs : List Row) where
   values-without e = simp e
 
 -- one turn
-module _ (s : List ℕ) (base : ℕ) (area₀ area : List ℕ) (place here : ℕ) (f : Valued s base area₀ area place here) (r : Read) (t : Turn s here r) where
+module _ {s : List ℕ} {base : ℕ} {area₀ area : List ℕ} {place here : ℕ} (f : Valued s base area₀ area place here) {r : Read} (t : Turn s here r) where
   abbrev x : Row
   x = row (lineAt s here)
 
@@ -63,7 +63,7 @@ module _ (s : List ℕ) (base : ℕ) (area₀ area : List ℕ) (place here : ℕ
     values-are =
         ap allValues (t .rest) ∙ values-with x behind (eq-eqb (x .letter) 80 (sym (letter-read x (r .next) r (t .read)) ∙ e))
 
-    module _ (skip : ℕ) (g : skip ≡ 4 + 2 * getD (r .nums) 3 0) where
+    module _ {skip : ℕ} (g : skip ≡ 4 + 2 * getD (r .nums) 3 0) where
       skipped : drop skip (x .numbers) ≡ valuesOf x
       skipped = ap (λ (j : ℕ). drop j (x .numbers)) (g ∙ ap (λ (m : ℕ). 4 + 2 * m) (number-read x (r .next) r (t .read) 3 (omega arith)))
 
@@ -73,14 +73,15 @@ module _ (s : List ℕ) (base : ℕ) (area₀ area : List ℕ) (place here : ℕ
       pub valued-room : place + length (drop skip (x .numbers)) ≤ length area
       valued-room = omega (arith, long)
 
-      pub valued-on : (area′ : List ℕ) (place′ : ℕ) → place′ ≡ place + length (drop skip (x .numbers))
+      pub valued-on : {area′ : List ℕ} {place′ : ℕ} → place′ ≡ place + length (drop skip (x .numbers))
           → area′ ≡ laid place (drop skip (x .numbers)) area → Valued s base area₀ area′ place′ (r .next)
-      valued-on area′ place′ ep ea =
+      valued-on {area′} {place′} ep ea =
           let put = drop skip (x .numbers) in
           let g = long in
           let z : allValues (rows (drop here s)) ≡ put ++ allValues behind = values-are ∙ ap (λ (l : List ℕ). l ++ allValues behind) (sym skipped) in
           let m : length area′ ≡ length area = ap length ea ∙ laid-length place put area (omega arith) in
-          let n : length (allValues (rows (drop here s))) ≡ length put + length (allValues behind) = ap length z ∙ length-append put (allValues behind) in
+          let n : length (allValues (rows (drop here s))) ≡ length put + length (allValues behind) =
+          ap length z ∙ length-append put (allValues behind) in
           let u = f .same in
           let v = f .after in
           let w = f .under in
@@ -120,7 +121,7 @@ module _ (s : List ℕ) (base : ℕ) (area₀ area : List ℕ) (place here : ℕ
       }
 
 -- the end of the text
-module _ (s : List ℕ) (base : ℕ) (area₀ area : List ℕ) (place here : ℕ) (f : Valued s base area₀ area place here) (h : length s ≤ here) where
+module _ {s : List ℕ} {base : ℕ} {area₀ area : List ℕ} {place here : ℕ} (f : Valued s base area₀ area place here) (h : length s ≤ here) where
   over : allValues (rows (drop here s)) ≡ []
   unfolding allValues
   over = ap allValues (rows-end s here h)

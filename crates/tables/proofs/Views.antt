@@ -206,29 +206,26 @@ module _ (n : ℕ) (rs : List Row) (room : 9992 ≤ n) (fits : SchemaFits rs) wh
   whole-fits : SchemaFits (rs ++ [])
   whole-fits = rw append-nil fits
 
+  -- what is asked of the rows of the first lines, asked of all
+  all-rows : {B : Type 0} {k head base : ℕ} → SchemaTable k head base → (ask : List ℕ → ℕ → B) (x : B)
+      → ask (schemaArea n (rs ++ [])) (counted k rs) ≡ x → ask a (cell a head) ≡ x
+  unfolding a
+  all-rows {k = k} t ask x e =
+      ap (ask (schemaArea n rs)) (schema-count n rs room fits t)
+      ∙ ap (λ (l : List Row). ask (schemaArea n l) (counted k rs)) (sym (append-nil rs))
+      ∙ e
+
   pairs-all : {k head base letter : ℕ} → SchemaTable k head base → PairTable k base letter → (x y : ℕ)
       → pairIn a base (cell a head) x y ≡ any (states letter x y) rs
-  unfolding a
-  pairs-all {k} {head} {base} {letter} t p x y =
-      ap (λ (c : ℕ). pairIn (schemaArea n rs) base c x y) (schema-count n rs room fits t)
-      ∙ ap (λ (l : List Row). pairIn (schemaArea n l) base (counted k rs) x y) (sym (append-nil rs))
-      ∙ pairs-before n rs [] room whole-fits p x y
+  pairs-all {base = base} t p x y = all-rows t (λ b c. pairIn b base c x y) _ (pairs-before n rs [] room whole-fits p x y)
 
   firsts-all : {k head base letter : ℕ} → SchemaTable k head base → PairTable k base letter → (x : ℕ)
       → firstIn a base (cell a head) x ≡ any (begins letter x) rs
-  unfolding a
-  firsts-all {k} {head} {base} {letter} t p x =
-      ap (λ (c : ℕ). firstIn (schemaArea n rs) base c x) (schema-count n rs room fits t)
-      ∙ ap (λ (l : List Row). firstIn (schemaArea n l) base (counted k rs) x) (sym (append-nil rs))
-      ∙ firsts-before n rs [] room whole-fits p x
+  firsts-all {base = base} t p x = all-rows t (λ b c. firstIn b base c x) _ (firsts-before n rs [] room whole-fits p x)
 
   seconds-all : {k head base letter : ℕ} → SchemaTable k head base → PairTable k base letter → (x : ℕ)
       → secondsIn a base (cell a head) x ≡ map (λ r. at r 1) (those (begins letter x) rs)
-  unfolding a
-  seconds-all {k} {head} {base} {letter} t p x =
-      ap (λ (c : ℕ). secondsIn (schemaArea n rs) base c x) (schema-count n rs room fits t)
-      ∙ ap (λ (l : List Row). secondsIn (schemaArea n l) base (counted k rs) x) (sym (append-nil rs))
-      ∙ seconds-before n rs [] room whole-fits p x
+  seconds-all {base = base} t p x = all-rows t (λ b c. secondsIn b base c x) _ (seconds-before n rs [] room whole-fits p x)
 
   same-kind : schemaAt a .kind ≡ schemaOf rs .kind
   unfolding schemaAt narrow belongs

@@ -11,19 +11,13 @@ use Rattle.rules.specs.Text.{Row, at, Pair, argNo, fieldNo, pairs}
 use Rattle.rules.specs.Schema.{nth}
 use Rattle.rules.specs.Graph.{labelOf}
 use Rattle.text.specs.Line.{padded}
-use Rattle.tables.specs.Layout.{wide, belongs, cells, width, table, counted}
-use Rattle.tables.specs.Read.{cell, wideAt, numbersAt, labelAt}
-use Rattle.tables.proofs.Cells.{table-length, table-part, valuesBefore, padded-length}
+use Rattle.tables.specs.Layout.{wide, belongs, cells, table, counted}
+use Rattle.tables.specs.Read.{cell, wideAt, numbersAt, namedAt, labelAt}
+use Rattle.text.proofs.Rows.{padded-length}
+pub use Rattle.text.proofs.Rows.{padded-at}
+use Rattle.tables.proofs.Cells.{wide-width, table-length, table-part, valuesBefore}
 
 -- ---- the first numbers of a row, zeros after them
-
-pub padded-at : (k : ℕ) (ns : List ℕ) (i : ℕ) → i < k → getD (padded k ns) i 0 ≡ getD ns i 0
-unfolding padded
-padded-at zero ns i h = absurd (omega arith)
-padded-at (suc k) [] zero h = refl
-padded-at (suc k) [] (suc i) h = padded-at k [] i (omega arith)
-padded-at (suc k) (n ∷ ns) zero h = refl
-padded-at (suc k) (n ∷ ns) (suc i) h = padded-at k ns i (omega arith)
 
 -- pairs that are all there are the same among the first numbers
 pub padded-pairs : (m k : ℕ) (ns : List ℕ) → 2 * m ≤ k → 2 * m ≤ length ns → pairs m (padded k ns) ≡ pairs m ns
@@ -36,7 +30,8 @@ padded-pairs (suc m) (suc (suc k)) (a ∷ []) h l = absurd (omega arith)
 padded-pairs (suc m) (suc (suc k)) (a ∷ v ∷ ns) h l =
     ap (λ (ps : List Pair). record { arg = argNo a; value = v } ∷ ps) (padded-pairs m k ns (omega arith) (omega arith))
 
-padded-drop : (j k : ℕ) (ns : List ℕ) → drop j (padded (j + k) ns) ≡ padded k (drop j ns)
+-- a part of the first numbers
+pub padded-drop : (j k : ℕ) (ns : List ℕ) → drop j (padded (j + k) ns) ≡ padded k (drop j ns)
 unfolding padded
 padded-drop zero k ns =
     let e : 0 + k ≡ k = omega arith in
@@ -49,10 +44,6 @@ padded-drop (suc j) k (n ∷ ns) =
     rw e (padded-drop j k ns)
 
 -- ---- wide rows
-
-wide-width : (k : ℕ) → leb k 7 ≡ false → width k ≡ 14
-unfolding width
-wide-width k h = rw h
 
 -- the tag of a row of a table, where `start` values stand before it
 abbrev pub tagOf : ℕ → ℕ → Row → ℕ
@@ -125,7 +116,7 @@ module _ (a : List ℕ) (k base : ℕ) (rs : List Row) (s : StandsWide a k base 
   -- the label, where all pairs are there
   pub wide-label : at (nth (belongs k) rs j) 3 ≤ 4 → 4 + 2 * at (nth (belongs k) rs j) 3 ≤ length (nth (belongs k) rs j .numbers)
       → labelAt a base j ≡ labelOf (nth (belongs k) rs j)
-  unfolding labelAt row
+  unfolding labelAt namedAt row
   wide-label few long = λ i. record { field = fieldNo (wide-number 1 (omega arith) i); args = same-args i }
     where
       ns : List ℕ

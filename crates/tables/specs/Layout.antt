@@ -1,10 +1,10 @@
 -- How accepted rows lie in the work areas: docs/AREAS.md in definitions. Assumes nothing.
-use Prim.Native.Nat.{ℕ, zero, suc, _+_, _*_}
+use Prim.Native.Nat.{ℕ, _+_}
 use mathlib.Core.List.{List, [], _∷_, _++_}
-use mathlib.Core.Bool.{Bool, true, false, cond}
+use mathlib.Core.Bool.{Bool, true, cond}
 use lib.ListN.{length, take, drop, replicate}
 use lib.Dec.{eqb, leb}
-use Rattle.rules.specs.Lists.{those, each, sumOf}
+use Rattle.rules.specs.Lists.{those, each}
 use Rattle.rules.specs.Text.{Row, at, valuesOf, A, E, F, G, H, M, N, P, Q}
 use Rattle.rules.specs.Schema.{is, isType, nth}
 use Rattle.text.specs.Line.{padded}

@@ -1,16 +1,13 @@
 -- What the areas say, asked by number: a Schema and a Graph read from tables. Assumes nothing.
-use Prim.Native.Nat.{ℕ, zero, suc, _+_, _*_, _-_}
+use Prim.Native.Nat.{ℕ, _+_, _*_, _-_}
 use mathlib.Core.List.{List, [], _∷_, map}
-use mathlib.Core.Bool.{Bool, true, false, cond, _&&_}
-use lib.ListN.{length, getD, take, drop}
+use mathlib.Core.Bool.{Bool, cond, _&&_}
+use lib.ListN.{getD, take, drop}
 use lib.Dec.{eqb, ltb}
 use Rattle.rules.specs.Lists.{those, any, countUp}
-use Rattle.rules.specs.Text.{Pair, pairs, fieldNo, argNo, typeNo}
+use Rattle.rules.specs.Text.{pairs, fieldNo, typeNo}
 use Rattle.rules.specs.Schema.{Schema}
 use Rattle.rules.specs.Graph.{Label, sameLabel, Found, nothing, one, many, Graph}
-use Rattle.rules.specs.declared.FieldNo.{FieldNo}
-use Rattle.rules.specs.declared.ArgNo.{ArgNo}
-use Rattle.rules.specs.declared.TypeNo.{TypeNo}
 
 -- the number at a place of an area
 unfoldable pub cell : List ℕ → ℕ → ℕ
@@ -68,9 +65,13 @@ wideAt a base j k = cell a (base + 14 * j + k)
 unfoldable pub numbersAt : List ℕ → ℕ → ℕ → List ℕ
 numbersAt a base j = take 12 (drop (base + 14 * j + 2) a)
 
--- the label of an edge or a property: its second number is the field, the fourth the count of the pairs, which follow
+-- the label of row j, whose field stands in cell c: the fourth number is the count of the pairs, which follow
+unfoldable pub namedAt : List ℕ → ℕ → ℕ → ℕ → Label
+namedAt a base j c = record { field = fieldNo (wideAt a base j c); args = pairs (wideAt a base j 5) (drop 4 (numbersAt a base j)) }
+
+-- of an edge or a property the second number is the field
 unfoldable pub labelAt : List ℕ → ℕ → ℕ → Label
-labelAt a base j = record { field = fieldNo (wideAt a base j 3); args = pairs (wideAt a base j 5) (drop 4 (numbersAt a base j)) }
+labelAt a base j = namedAt a base j 3
 
 -- row j is of node u and has the label l
 unfoldable pub startsAt : List ℕ → ℕ → ℕ → Label → ℕ → Bool

@@ -4,6 +4,7 @@ ghost use Prim.Native.Nat.{_+_, _*_, _-_, _≤_, _<_};
 ghost use mathlib.Core.List.{[], _∷_};
 ghost use lib.ListN.{length, drop, replicate};
 ghost use Rattle.rules.specs.Text.{rows, row, lines};
+ghost use Rattle.rules.specs.Schema.{isType};
 ghost use Rattle.rules.proofs.Clean.{Each};
 ghost use Rattle.text.specs.Line.{lineAt};
 ghost use Rattle.tables.specs.Layout.{laid, belongs, width, table, counted, allValues, schemaArea, nodeArea, propertyArea, valueArea, queryArea};
@@ -20,21 +21,28 @@ pub fn clear(area: &mut [u32])
     }
 }
 
+// Whether a row with this letter states a type.
+fn is_type(letter: u8) -> bool
+    ensures { λ r. ⌜ r ≡ isType (lettered letter) ⌝ }
+{
+    if letter == b'S' {
+        return true;
+    }
+    if letter == b'O' {
+        return true;
+    }
+    if letter == b'I' {
+        return true;
+    }
+    letter == b'U'
+}
+
 // Whether a row with this letter belongs to table k.
 pub fn belongs_to(k: u32, letter: u8) -> bool
     ensures { λ r. ⌜ r ≡ belongs k (lettered letter) ⌝ }
 {
     if k == 1 {
-        if letter == b'S' {
-            return true;
-        }
-        if letter == b'O' {
-            return true;
-        }
-        if letter == b'I' {
-            return true;
-        }
-        return letter == b'U';
+        return is_type(letter);
     }
     if k == 2 {
         return letter == b'F';
@@ -64,7 +72,7 @@ pub fn belongs_to(k: u32, letter: u8) -> bool
 }
 
 // Lays a narrow row at a place.
-pub fn put_narrow(area: &mut [u32], place: usize, letter: u32, x: u32, y: u32)
+fn put_narrow(area: &mut [u32], place: usize, letter: u32, x: u32, y: u32)
     requires { ⌜ place + 3 ≤ length (now area) ⌝ }
     ensures { λ _. ⌜ now (area .exit) ≡ laid place (letter ∷ x ∷ y ∷ []) (now (area .entry)) ⌝ }
 {
@@ -74,7 +82,7 @@ pub fn put_narrow(area: &mut [u32], place: usize, letter: u32, x: u32, y: u32)
 }
 
 // Lays a wide row at a place.
-pub fn put_wide(area: &mut [u32], place: usize, tag: u32, count: u32, nums: [u32; 12])
+fn put_wide(area: &mut [u32], place: usize, tag: u32, count: u32, nums: [u32; 12])
     requires { ⌜ place + 14 ≤ length (now area) ⌝ }
     ensures { λ _. ⌜ now (area .exit) ≡ laid place (tag ∷ count ∷ nums) (now (area .entry)) ⌝ }
 {
@@ -102,7 +110,7 @@ pub fn values_in(letter: u8, count: usize, n: u32) -> usize
 }
 
 // Lays a row of table k at a place, before which `start` values stand, and says where the next goes.
-pub fn put_row(area: &mut [u32], place: usize, k: u32, start: u32, r: text::Row) -> usize
+fn put_row(area: &mut [u32], place: usize, k: u32, start: u32, r: text::Row) -> usize
     requires { ⌜ place + width k ≤ length (now area) ⌝ }
     requires { ⌜ r .count < 100000 ⌝ }
     ensures { λ n. ⌜ n ≡ place + width k ⌝ }
@@ -122,7 +130,7 @@ pub fn put_row(area: &mut [u32], place: usize, k: u32, start: u32, r: text::Row)
 }
 
 // Lays table k of an accepted text over an area from a place on, and says how many rows it has.
-pub fn fill(k: u32, s: &[u8], area: &mut [u32], base: usize) -> u32
+fn fill(k: u32, s: &[u8], area: &mut [u32], base: usize) -> u32
     requires { ⌜ length (now s) ≤ 65535 ⌝ }
     requires { ⌜ Each Plain (lines (now s)) ⌝ }
     requires { ⌜ base + length (table k 0 (rows (now s))) ≤ length (now area) ⌝ }
@@ -148,7 +156,7 @@ pub fn fill(k: u32, s: &[u8], area: &mut [u32], base: usize) -> u32
 }
 
 // Lays the numbers of the line at `at`, without the first `skip`, over an area from a place on, and says where the next go.
-pub fn put_numbers(s: &[u8], at: usize, skip: usize, area: &mut [u32], base: usize) -> usize
+fn put_numbers(s: &[u8], at: usize, skip: usize, area: &mut [u32], base: usize) -> usize
     requires { ⌜ at < length (now s) ⌝ }
     requires { ⌜ Plain (lineAt (now s) at) ⌝ }
     requires { ⌜ base + length (drop skip (row (lineAt (now s) at) .numbers)) ≤ length (now area) ⌝ }
@@ -176,7 +184,7 @@ pub fn put_numbers(s: &[u8], at: usize, skip: usize, area: &mut [u32], base: usi
 }
 
 // Lays the values of the properties of an accepted graph over an area from a place on, and says how many there are.
-pub fn fill_values(s: &[u8], area: &mut [u32], base: usize) -> u32
+fn fill_values(s: &[u8], area: &mut [u32], base: usize) -> u32
     requires { ⌜ length (now s) ≤ 65535 ⌝ }
     requires { ⌜ Each Plain (lines (now s)) ⌝ }
     requires { ⌜ base + length (allValues (rows (now s))) ≤ length (now area) ⌝ }
@@ -197,13 +205,14 @@ pub fn fill_values(s: &[u8], area: &mut [u32], base: usize) -> u32
     (place - base) as u32
 }
 
-// How many Q records an accepted schema has, and the type that the first names.
-pub struct Queries {
-    pub count: u32,
-    pub first: u32,
+// How many Q records a schema has, and the type that the first names.
+struct Queries {
+    count: u32,
+    first: u32,
 }
 
-pub fn count_queries(s: &[u8]) -> Queries
+// Counts the Q records of an accepted schema.
+fn count_queries(s: &[u8]) -> Queries
     requires { ⌜ length (now s) ≤ 65535 ⌝ }
     requires { ⌜ Each Plain (lines (now s)) ⌝ }
     ensures { λ r. ⌜ r ≡ queriesIn (rows (now (s .entry))) ⌝ }
@@ -245,7 +254,8 @@ fn fill_three(k: u32, s: &[u8], area: &mut [u32], x: usize, y: usize, z: usize) 
     ensures { λ r. ⌜ r .first ≡ counted k (rows (now (s .entry))) ⌝ }
     ensures { λ r. ⌜ r .second ≡ counted (k + 1) (rows (now (s .entry))) ⌝ }
     ensures { λ r. ⌜ r .third ≡ counted (k + 2) (rows (now (s .entry))) ⌝ }
-    ensures { λ _. ⌜ now (area .exit) ≡ laid z (table (k + 2) 0 (rows (now (s .entry)))) (laid y (table (k + 1) 0 (rows (now (s .entry)))) (laid x (table k 0 (rows (now (s .entry)))) (now (area .entry)))) ⌝ }
+    ensures { λ _. ⌜ now (area .exit) ≡ laid z (table (k + 2) 0 (rows (now (s .entry))))
+        (laid y (table (k + 1) 0 (rows (now (s .entry)))) (laid x (table k 0 (rows (now (s .entry)))) (now (area .entry)))) ⌝ }
 {
     let first = fill(k, s, area, x);
     let second = fill(k + 1, s, area, y);
@@ -260,7 +270,8 @@ fn fill_three(k: u32, s: &[u8], area: &mut [u32], x: usize, y: usize, z: usize) 
 // Lays the head of the schema's area.
 fn put_head(area: &mut [u32], x: Three, y: Three, q: Queries)
     requires { ⌜ 8 ≤ length (now area) ⌝ }
-    ensures { λ _. ⌜ now (area .exit) ≡ laid 0 (x .first ∷ x .second ∷ x .third ∷ y .first ∷ y .second ∷ y .third ∷ q .count ∷ q .first ∷ []) (now (area .entry)) ⌝ }
+    ensures { λ _. ⌜ now (area .exit) ≡ laid 0 (x .first ∷ x .second ∷ x .third ∷ y .first ∷ y .second ∷ y .third ∷ q .count ∷ q .first ∷ [])
+        (now (area .entry)) ⌝ }
 {
     area[0] = x.first;
     area[1] = x.second;

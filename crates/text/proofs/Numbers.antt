@@ -14,7 +14,7 @@ use Rattle.rules.specs.Text.{isDigit, decimal, largest, isNumber}
 use Rattle.text.specs.declared.Num.{Num}
 use Rattle.text.specs.declared.Num.the-variants.{Value, Fault}
 use Rattle.text.specs.Number.{isStop, digitIn, stopIn, fieldOf, goes, goodFrom, goodPart, numberOf, numberAt}
-use Rattle.text.proofs.Tools.{by-test, by-order, and-false, or-true}
+use Rattle.text.proofs.Tools.{by-test, by-order, and-false, or-true, shift}
 use Rattle.text.proofs.Bytes.{at-first, digit-end}
 
 value-grows : (v : ℕ) (f : List ℕ) → v ≤ decimal v f
@@ -84,9 +84,6 @@ number-all b (c ∷ bs) = by-test (isDigit b) (λ d. simp (d, zero-add, zero-dig
 -- what reading comes to, from the value so far, the position, and the field's bytes that are left
 pub readFrom : ℕ → ℕ → List ℕ → Num
 readFrom v i f = cond (allOf v f) (Value (decimal v f) (i + length f)) (Fault (i + goodFrom v f))
-
-shift : (i n : ℕ) → i + suc n ≡ i + 1 + n
-shift i n = omega arith
 
 value-first : (b : ℕ) (bs : List ℕ) → decimal 0 (b ∷ bs) ≡ decimal (b - 48) bs
 value-first b bs = ap (λ (v : ℕ). decimal v bs) (zero-add (b - 48))
@@ -195,11 +192,13 @@ module _ (s : List ℕ) (at v i d : ℕ) where
   unfolding readAt
   number-big k e h p = let w = digit-here s i (omega arith) in cc (read-big v i (w .0) (drop (i + 1) s) (w .2) p)
 
-  pub number-end : (b : Bool) → numberAt s at ≡ readAt s v i → v ≤ 999999999 → d ≡ digitIn (drop i s) → 10 ≤ d → b ≡ stopIn (drop i s) → b ≡ true → Value v i ≡ numberAt s at
+  pub number-end : (b : Bool) → numberAt s at ≡ readAt s v i → v ≤ 999999999 → d ≡ digitIn (drop i s) → 10 ≤ d
+      → b ≡ stopIn (drop i s) → b ≡ true → Value v i ≡ numberAt s at
   unfolding readAt
   number-end b k m e h p q = sym (k ∙ end-here v i (drop i s) m (omega arith) (sym p ∙ q))
 
-  pub number-fault : (b : Bool) → numberAt s at ≡ readAt s v i → d ≡ digitIn (drop i s) → 10 ≤ d → b ≡ stopIn (drop i s) → b ≡ false → Fault i ≡ numberAt s at
+  pub number-fault : (b : Bool) → numberAt s at ≡ readAt s v i → d ≡ digitIn (drop i s) → 10 ≤ d
+      → b ≡ stopIn (drop i s) → b ≡ false → Fault i ≡ numberAt s at
   unfolding readAt
   number-fault b k e h p q = sym (k ∙ fault-here v i (drop i s) (omega arith) (sym p ∙ q))
 

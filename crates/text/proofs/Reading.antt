@@ -7,7 +7,8 @@ use native.Mathlib.Omega.{arith}
 use native.Mathlib.Nat.{add-zero, zero-add}
 use lib.ListN.{length, drop, set, drop-of-length-le, length-append}
 use lib.Dec.{eqb}
-use borrow.Author.Tests.{le-leb, lt-leb, ne-eqb, eqb-true}
+use borrow.Author.Tests.{le-leb, lt-leb, ne-eqb, eqb-true, eqb-false}
+use mir.Val.{boolByte}
 use Rattle.rules.specs.Lists.{isEmpty}
 use Rattle.rules.specs.Text.{Line, fields, decimal, isNumber, leading}
 use Rattle.text.specs.declared.Num.{Num}
@@ -15,9 +16,10 @@ use Rattle.text.specs.declared.Num.the-variants.{Value, Fault}
 use Rattle.text.specs.declared.Row.{Row}
 use Rattle.text.specs.Number.{isStop, stopIn, fieldOf, numberAt, ByteAt}
 use Rattle.text.specs.Line.{nextAt, padded, badField, isLetter, unreadRow, readRow, rowFrom, rowAt}
-use Rattle.text.proofs.Tools.{by-order, and-false}
+use Rattle.text.proofs.Tools.{by-test, by-order, and-false, shift}
 use Rattle.text.proofs.Lines.{bodyOf, isEnded, lineLength, line-is, next-is}
-use Rattle.text.proofs.Fields.{leftOf, fieldsLeft, stop-field, by-byte, fields-split, ended-split, line-split, value-here, fault-here, left-at, Ends, ends, first-is, not-stop, run-field}
+use Rattle.text.proofs.Fields.{leftOf, fieldsLeft, stop-field, by-byte, fields-split, ended-split, line-split}
+use Rattle.text.proofs.Fields.{value-here, fault-here, left-at, Ends, ends, first-is, not-stop, run-field}
 
 -- ---- the first k numbers, filled one by one
 
@@ -42,17 +44,19 @@ fill-padded k ns (v ∷ vs) =
 
 -- ---- a row, from its letter, the numbers so far, and the fields that are left
 
+-- a row by its fields: one that broke off at a field that is no number, and one read to its end
+abbrev rowBy : ℕ → ℕ → List ℕ → ℕ → Bool → ℕ → Row
+rowBy l c ns bad e n = record { letter = l; count = c; nums = ns; bad = bad; ended = e; next = n }
+
+abbrev brokenRow : ℕ → ℕ → List ℕ → Row
+brokenRow l c ns = rowBy l c ns (c + 2) true 0
+
+abbrev endedRow : ℕ → ℕ → List ℕ → Bool → ℕ → Row
+endedRow l c ns e n = rowBy l c ns 0 e n
+
 -- where `bad` is the first of the fields left that is no number
 abbrev rowWith : ℕ → ℕ → List ℕ → List ℕ → ℕ → Bool → ℕ → Row
-rowWith l c ns vs bad e n =
-    record {
-      letter = l;
-      count = c + length vs;
-      nums = fillFrom c ns vs;
-      bad = bad;
-      ended = cond (eqb bad 0) e true;
-      next = cond (eqb bad 0) n 0;
-    }
+rowWith l c ns vs bad e n = rowBy l (c + length vs) (fillFrom c ns vs) bad (cond (eqb bad 0) e true) (cond (eqb bad 0) n 0)
 
 restOf : ℕ → ℕ → List ℕ → List (List ℕ) → Bool → ℕ → Row
 restOf l c ns fs e n = rowWith l c ns (leading fs) (badField (c + 2) fs) e n
@@ -77,20 +81,14 @@ module _ (l c : ℕ) (ns : List ℕ) where
     rest-more : isNumber f ≡ true → restOf l c ns (f ∷ fs) e n ≡ restOf l (c + 1) (set ns c (decimal 0 f)) fs e n
     unfolding restOf fillFrom
     rest-more g =
+        let bad = badField (c + 1 + 2) fs in
         let k : suc (c + 2) ≡ c + 1 + 2 = omega arith in
-        let q : c + suc (length (leading fs)) ≡ c + 1 + length (leading fs) = omega arith in
         ap (λ (vs : List ℕ). rowWith l c ns vs (badField (c + 2) (f ∷ fs)) e n) (leading-more f fs g)
         ∙ ap (λ (b : ℕ). rowWith l c ns (decimal 0 f ∷ leading fs) b e n) (bad-more f fs (c + 2) g ∙ ap (λ (j : ℕ). badField j fs) k)
-        ∙ ap (λ (m : ℕ). record {
-          letter = l;
-          count = m;
-          nums = fillFrom (c + 1) (set ns c (decimal 0 f)) (leading fs);
-          bad = badField (c + 1 + 2) fs;
-          ended = cond (eqb (badField (c + 1 + 2) fs) 0) e true;
-          next = cond (eqb (badField (c + 1 + 2) fs) 0) n 0;
-        }) q
+        ∙ ap (λ (m : ℕ). rowBy l m (fillFrom (c + 1) (set ns c (decimal 0 f)) (leading fs)) bad (cond (eqb bad 0) e true) (cond (eqb bad 0) n 0))
+        (shift c (length (leading fs)))
 
-    rest-bad : isNumber f ≡ false → restOf l c ns (f ∷ fs) e n ≡ record { letter = l; count = c; nums = ns; bad = c + 2; ended = true; next = 0 }
+    rest-bad : isNumber f ≡ false → restOf l c ns (f ∷ fs) e n ≡ brokenRow l c ns
     unfolding restOf fillFrom
     rest-bad g =
         let z : eqb (c + 2) 0 ≡ false = ne-eqb (c + 2) 0 (λ k. omega arith) in
@@ -98,7 +96,7 @@ module _ (l c : ℕ) (ns : List ℕ) where
         ∙ ap (λ (b : ℕ). rowWith l c ns [] b e n) (bad-here f fs (c + 2) g)
         ∙ simp (z, add-zero)
 
-  rest-none : (e : Bool) (n : ℕ) → restOf l c ns [] e n ≡ record { letter = l; count = c; nums = ns; bad = 0; ended = e; next = n }
+  rest-none : (e : Bool) (n : ℕ) → restOf l c ns [] e n ≡ endedRow l c ns e n
   unfolding restOf fillFrom badField
   rest-none e n = simp add-zero
 
@@ -122,9 +120,6 @@ row-text s at =
     ap (λ (l : Line). rowFrom (fields (l .bytes)) (l .ended) (nextAt s at)) (line-is s at)
     ∙ ap (λ (n : ℕ). rowFrom (fields (bodyOf (drop at s))) (isEnded (drop at s)) n) (next-is s at)
     ∙ ap (λ (fs : List (List ℕ)). rowFrom fs (isEnded (drop at s)) (at + lineLength (drop at s))) (fields-split (drop at s))
-
-shift : (i n : ℕ) → i + suc n ≡ i + 1 + n
-shift i n = omega arith
 
 text-none : (at : ℕ) → rowText at [] ≡ unreadRow 0
 unfolding rowText fieldOf leftOf fieldsLeft rowFrom
@@ -157,7 +152,8 @@ unfolding rowFrom
 from-tab f fs e n = refl
 
 module _ (at b : ℕ) (bs : List ℕ) where
-  text-run : isStop b ≡ false → rowText at (b ∷ bs) ≡ rowFrom ((b ∷ fieldOf bs) ∷ fieldsLeft (leftOf bs)) (isEnded (b ∷ bs)) (at + lineLength (b ∷ bs))
+  text-run : isStop b ≡ false
+      → rowText at (b ∷ bs) ≡ rowFrom ((b ∷ fieldOf bs) ∷ fieldsLeft (leftOf bs)) (isEnded (b ∷ bs)) (at + lineLength (b ∷ bs))
   unfolding rowText fieldOf leftOf
   text-run s = simp s
 
@@ -210,17 +206,17 @@ module _ (l c : ℕ) (ns : List ℕ) (i : ℕ) (bs : List ℕ) where
       ∙ ap (λ (n : ℕ). restOf l c ns (fieldOf bs ∷ fieldsLeft (leftOf bs)) (isEnded (leftOf bs)) n) turn-length
       ∙ rest-more l c ns (fieldOf bs) (fieldsLeft (leftOf bs)) (isEnded (leftOf bs)) (i + 1 + length (fieldOf bs) + lineLength (leftOf bs)) g
 
-  row-bad : isNumber (fieldOf bs) ≡ false → rowRest l c ns i (9 ∷ bs) ≡ record { letter = l; count = c; nums = ns; bad = c + 2; ended = true; next = 0 }
+  row-bad : isNumber (fieldOf bs) ≡ false → rowRest l c ns i (9 ∷ bs) ≡ brokenRow l c ns
   unfolding rowRest
   row-bad g =
       ap (λ (fs : List (List ℕ)). restOf l c ns fs (isEnded (9 ∷ bs)) (i + lineLength (9 ∷ bs))) left-tab
       ∙ rest-bad l c ns (fieldOf bs) (fieldsLeft (leftOf bs)) (isEnded (9 ∷ bs)) (i + lineLength (9 ∷ bs)) g
 
-  row-line : rowRest l c ns i (10 ∷ bs) ≡ record { letter = l; count = c; nums = ns; bad = 0; ended = true; next = i + 1 }
+  row-line : rowRest l c ns i (10 ∷ bs) ≡ endedRow l c ns true (i + 1)
   unfolding rowRest fieldsLeft isEnded lineLength
   row-line = rest-none l c ns true (i + 1)
 
-  row-end : rowRest l c ns i [] ≡ record { letter = l; count = c; nums = ns; bad = 0; ended = false; next = i }
+  row-end : rowRest l c ns i [] ≡ endedRow l c ns false i
   unfolding rowRest fieldsLeft isEnded lineLength
   row-end = rest-none l c ns false (i + 0) ∙ simp add-zero
 
@@ -246,12 +242,13 @@ module _ (s : List ℕ) (at b : ℕ) where
   row-high r h u e =
       e ∙ sym (text-here h (h .inside (omega arith)) ∙ text-bad at b (drop (at + 1) s) (letter-high b u) (λ n. omega arith))
 
-  pub row-long : (r : Row) (t : Bool) → ByteAt s at b → 65 ≤ b → b ≤ 90 → t ≡ stopIn (drop (at + 1) s) → t ≡ false → r ≡ unreadRow 1 → r ≡ rowAt s at
+  pub row-long : (r : Row) (t : Bool) → ByteAt s at b → 65 ≤ b → b ≤ 90 → t ≡ stopIn (drop (at + 1) s) → t ≡ false
+      → r ≡ unreadRow 1 → r ≡ rowAt s at
   row-long r t h l u p q e = e ∙ sym (text-here h (h .inside (omega arith)) ∙ text-long at b (drop (at + 1) s) l u (sym p ∙ q))
 
-  pub row-start : (t : Bool) → ByteAt s at b → 65 ≤ b → b ≤ 90 → t ≡ stopIn (drop (at + 1) s) → t ≡ true → rowAt s at ≡ rowLeft s b 0 twelve (at + 1)
+  pub row-start : ByteAt s at b → 65 ≤ b → b ≤ 90 → stopIn (drop (at + 1) s) ≡ true → rowAt s at ≡ rowLeft s b 0 twelve (at + 1)
   unfolding rowLeft padded
-  row-start t h l u p q = text-here h (h .inside (omega arith)) ∙ text-start at b (drop (at + 1) s) l u (sym p ∙ q)
+  row-start h l u e = text-here h (h .inside (omega arith)) ∙ text-start at b (drop (at + 1) s) l u e
 
 pub row-past : (s : List ℕ) (at : ℕ) (r : Row) → length s ≤ at → r ≡ unreadRow 0 → r ≡ rowAt s at
 row-past s at r h e = e ∙ sym (row-text s at ∙ ap (rowText at) (drop-of-length-le s h) ∙ text-none at)
@@ -265,29 +262,29 @@ module _ (s : List ℕ) (at l c : ℕ) (ns : List ℕ) (i b : ℕ) where
       let w = value-here s (i + 1) v n (sym p ∙ q) in
       cc (row-turn l c ns i (drop (i + 1) s) (w .good), left-at s (i + 1) v n w)
 
-  pub row-fault : (num : Num) (f : ℕ) → rowAt s at ≡ rowLeft s l c ns i → ByteAt s i b → b ≡ 9 → num ≡ numberAt s (i + 1) → num ≡ Fault f
-      → record { letter = l; count = c; nums = ns; bad = c + 2; ended = true; next = 0 } ≡ rowAt s at
+  pub row-fault : (num : Num) (f : ℕ) → rowAt s at ≡ rowLeft s l c ns i → ByteAt s i b → b ≡ 9
+      → num ≡ numberAt s (i + 1) → num ≡ Fault f → brokenRow l c ns ≡ rowAt s at
   unfolding rowLeft
   row-fault num f k h t p q =
       let e = first-is s i b h (h .inside (omega arith)) in
       cc (row-bad l c ns i (drop (i + 1) s) (fault-here s (i + 1) f (sym p ∙ q)))
 
-  pub row-done : rowAt s at ≡ rowLeft s l c ns i → ByteAt s i b → b ≡ 10
-      → record { letter = l; count = c; nums = ns; bad = 0; ended = true; next = i + 1 } ≡ rowAt s at
+  -- behind the numbers stands the newline, or the text's end
+  pub row-ended : rowAt s at ≡ rowLeft s l c ns i → stopIn (drop i s) ≡ true → ByteAt s i b → (b ≡ 9 → ⊥)
+      → endedRow l c ns (eqb b 10) (i + boolByte (eqb b 10)) ≡ rowAt s at
   unfolding rowLeft
-  row-done k h t =
-      let e = first-is s i b h (h .inside (omega arith)) in
-      cc (row-line l c ns i (drop (i + 1) s))
-
-  pub row-open : rowAt s at ≡ rowLeft s l c ns i → stopIn (drop i s) ≡ true → ByteAt s i b → (b ≡ 9 → ⊥) → (b ≡ 10 → ⊥)
-      → record { letter = l; count = c; nums = ns; bad = 0; ended = false; next = i } ≡ rowAt s at
-  unfolding rowLeft
-  row-open k p h t n =
+  row-ended k p h t =
       by-order i (length s)
-      (λ q. let f = first-is s i b h q in absurd (false≢true (cc (not-stop b (drop (i + 1) s) t n))))
-      (λ q. cc (row-end l c ns i [], drop-of-length-le s q))
+      (λ q. by-test (eqb b 10)
+      (λ n. let f = first-is s i b h q in let e = eqb-true b 10 n in simp n (cc (row-line l c ns i (drop (i + 1) s))))
+      (λ n. let f = first-is s i b h q in absurd (false≢true (cc (not-stop b (drop (i + 1) s) t (eqb-false b 10 n))))))
+      (λ q. simp (ne-eqb b 10 (λ n. omega (arith, h .inside (omega arith))), add-zero) (cc (row-end l c ns i [], drop-of-length-le s q)))
 
-pub ruleset row-laws = (row-empty, row-low, row-past, row-high, row-long, row-start, row-more, row-fault, row-done, row-open)
+pub ruleset row-laws = (row-empty, row-low, row-past, row-high, row-long, row-start, row-more, row-fault, row-ended)
+
+pub bit-most : (b : Bool) → boolByte b ≤ 1
+bit-most true = omega arith
+bit-most false = omega arith
 
 -- ---- where the loop stands, before the first turn and after each
 
@@ -297,7 +294,8 @@ start-stops t bs p q = sym p ∙ q
 pub start-inside : (s : List ℕ) (at b : ℕ) → ByteAt s at b → 65 ≤ b → at + 1 ≤ length s
 start-inside s at b h l = omega (arith, h .inside (omega arith))
 
-module _ (s : List ℕ) (i b v n c : ℕ) (num : Num) (h : ByteAt s i b) (t : b ≡ 9) (p : num ≡ numberAt s (i + 1)) (q : num ≡ Value v n) where
+module _ (s : List ℕ) (i b v n c : ℕ) (num : Num) (h : ByteAt s i b) (t : b ≡ 9)
+    (p : num ≡ numberAt s (i + 1)) (q : num ≡ Value v n) where
   turn-ends : Ends s (i + 1) n
   turn-ends = ends s (i + 1) v n num p q (omega (arith, h .inside (omega arith)))
 
@@ -312,7 +310,5 @@ module _ (s : List ℕ) (i b v n c : ℕ) (num : Num) (h : ByteAt s i b) (t : b 
 
   pub turn-less : length s - n < length s - i
   turn-less = let e = turn-ends in omega arith
-
-pub ruleset start-laws = (start-stops, start-inside)
 
 pub ruleset turn-laws = (turn-stops, turn-inside, turn-count, turn-less)

@@ -1,5 +1,5 @@
--- Cases on a test, and what a test that is known decides. Assumes nothing.
-use Prim.Native.Nat.{ℕ, _≤_, _<_}
+-- Cases on a test, what a test that is known decides, and one step further on. Assumes nothing.
+use Prim.Native.Nat.{ℕ, suc, _+_, _≤_, _<_}
 use mathlib.Core.Path.{_≡_, refl}
 use native.Mathlib.Decide.{decLt}
 use native.Mathlib.Omega.{arith}
@@ -19,3 +19,6 @@ or-true false = refl
 
 pub by-order {ℓ} : {X : Type ℓ} (a b : ℕ) → (a < b → X) → (b ≤ a → X) → X
 by-order a b f g = elim (decLt a b) [ yes h ↦ f h | no h ↦ g (omega arith) ]
+
+pub shift : (i n : ℕ) → i + suc n ≡ i + 1 + n
+shift i n = omega arith

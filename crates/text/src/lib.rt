@@ -1,8 +1,12 @@
 // Reading a text: numbers, and whole lines as rows.
 ghost use mathlib.Core.Path.{_≡_};
+ghost use mathlib.Core.Bool.{true};
+ghost use Prim.Native.Nat.{_+_, _≤_};
 ghost use lib.ListN.{drop, set};
 ghost use Rattle.text.specs.Number.{DigitAt, ByteAt, stopIn, numberAt};
 ghost use Rattle.text.specs.Line.{unreadRow, rowAt};
+
+pub mod reader; // reader.rt: a text and a position in it, held together
 
 // What reading a number at a position finds: the number and where its field ends, or where the reader stopped.
 pub enum Num {
@@ -23,7 +27,7 @@ pub struct Row {
 }
 
 // The digit that stands at i, 10 where none stands there.
-pub fn digit(s: &[u8], i: usize) -> u32
+fn digit(s: &[u8], i: usize) -> u32
     ensures { λ r. ⌜ DigitAt (now (s .entry)) i r ⌝ }
 {
     if i < s.len() {
@@ -40,7 +44,7 @@ pub fn digit(s: &[u8], i: usize) -> u32
 }
 
 // Whether a field may end at i: at a tab, a newline or the end.
-pub fn stops(s: &[u8], i: usize) -> bool
+fn stops(s: &[u8], i: usize) -> bool
     ensures { λ r. ⌜ r ≡ stopIn (drop i (now (s .entry))) ⌝ }
 {
     if i < s.len() {
@@ -95,7 +99,7 @@ pub fn number(s: &[u8], at: usize) -> Num
 }
 
 // Puts v at k, if there is a place k.
-pub fn put(nums: &mut [u32], k: usize, v: u32)
+fn put(nums: &mut [u32], k: usize, v: u32)
     ensures { λ _. ⌜ now (nums .exit) ≡ set (now (nums .entry)) k v ⌝ }
 {
     if k < nums.len() {
@@ -104,7 +108,7 @@ pub fn put(nums: &mut [u32], k: usize, v: u32)
 }
 
 // A line that has no letter.
-pub fn unread(bad: usize) -> Row
+fn unread(bad: usize) -> Row
     ensures { λ r. ⌜ r ≡ unreadRow bad ⌝ }
 {
     Row {
@@ -117,27 +121,14 @@ pub fn unread(bad: usize) -> Row
     }
 }
 
-// The line that starts at a position.
-pub fn read_row(s: &[u8], at: usize) -> Row
+// The line that starts at a position with a letter that is a field of its own.
+fn lettered_row(s: &[u8], at: usize, letter: u8) -> Row
+    requires { ⌜ ByteAt (now s) at letter ⌝ }
+    requires { ⌜ (65 ≤ letter) × (letter ≤ 90) ⌝ }
+    requires { ⌜ stopIn (drop (at + 1) (now s)) ≡ true ⌝ }
     ensures { λ r. ⌜ r ≡ rowAt (now (s .entry)) at ⌝ }
 {
-    let letter = byte_at(s, at);
-    if letter < 65 {
-        if at < s.len() {
-            if letter == 10 {
-                return unread(0);
-            }
-            return unread(1);
-        }
-        return unread(0);
-    }
-    if 90 < letter {
-        return unread(1);
-    }
     let mut i = at + 1;
-    if !stops(s, i) {
-        return unread(1);
-    }
     let mut nums = [0u32; 12];
     let mut count: usize = 0;
     let mut b = byte_at(s, i);
@@ -157,22 +148,43 @@ pub fn read_row(s: &[u8], at: usize) -> Row
         i = next;
         b = byte_at(s, i);
     }
-    if b == 10 {
-        return Row {
-            letter,
-            count,
-            nums,
-            bad: 0,
-            ended: true,
-            next: i + 1,
-        };
-    }
+    let ended = b == 10;
     Row {
         letter,
         count,
         nums,
         bad: 0,
-        ended: false,
-        next: i,
+        ended,
+        next: i + ended as usize,
     }
+}
+
+// The line that starts at a position.
+fn row_at(s: &[u8], at: usize) -> Row
+    ensures { λ r. ⌜ r ≡ rowAt (now (s .entry)) at ⌝ }
+{
+    let letter = byte_at(s, at);
+    if letter < 65 {
+        if at < s.len() {
+            if letter == 10 {
+                return unread(0);
+            }
+            return unread(1);
+        }
+        return unread(0);
+    }
+    if 90 < letter {
+        return unread(1);
+    }
+    if !stops(s, at + 1) {
+        return unread(1);
+    }
+    lettered_row(s, at, letter)
+}
+
+// The line that starts at a position, by the thin reader: every pass over the lines of a text asks for them here.
+pub fn read_row(s: &[u8], at: usize) -> Row
+    ensures { λ r. ⌜ r ≡ rowAt (now (s .entry)) at ⌝ }
+{
+    reader::row_of(reader::reader_at(s, at))
 }

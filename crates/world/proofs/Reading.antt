@@ -2,7 +2,7 @@
 use Prim.Native.Nat.{ℕ, suc, _+_, _*_, _-_, _≤_, _<_}
 use native.Mathlib.Omega.{arith}
 use native.Mathlib.Numerals.{add-one}
-use mathlib.Core.Path.{_≡_, refl, sym, ap, ap₂, _∙_}
+use mathlib.Core.Path.{_≡_, sym, ap, ap₂, _∙_}
 use mathlib.Core.Bool.{Bool, true, false}
 use mathlib.Core.List.{List}
 use lib.Dec.{eqb}
@@ -10,46 +10,38 @@ use lib.ListN.{length, getD, drop, length-take, length-drop}
 use lib.Seq.{getD-take, getD-drop}
 use borrow.Author.Tests.{eq-eqb, ne-eqb}
 use Rattle.rules.specs.Lists.{those, keepIf, countUp}
-use Rattle.rules.specs.Text.{Pair, pairs, fieldNo}
+use Rattle.rules.specs.Text.{pairs, fieldNo}
 use Rattle.rules.specs.Schema.{isScalar, isList, fieldType, listMark, compatible, queryType}
 use Rattle.rules.specs.Graph.{Label, sameLabel}
 use Rattle.rules.specs.World.{shapeIf}
 use Rattle.rules.specs.declared.FieldNo.{FieldNo}
 use Rattle.rules.specs.declared.TypeNo.{TypeNo}
-use Rattle.tables.specs.Read.{cell, wideAt, numbersAt, labelAt, startsAt, valuesAt, schemaAt}
+use Rattle.tables.specs.Read.{cell, wideAt, numbersAt, namedAt, startsAt, valuesAt, schemaAt}
 use Rattle.graph.specs.Held.{PropertiesHeld}
 use Rattle.graph.specs.Faults.{nodesAt, labelIs}
 use Rattle.graph.specs.declared.Named.{Named}
-use Rattle.graph.proofs.Copying.{FromTable, table-none, table-more, table-label, same-node}
-use Rattle.query.specs.Entries.{QueryHeld, entryAt}
+use Rattle.graph.proofs.Copying.{same-node}
+use Rattle.query.specs.Entries.{entryAt}
 use Rattle.query.proofs.Cells.{third-at, count-at}
 use Rattle.world.specs.World.{rootAt, askedAt, rowFrom, firstOf, lookupAt, shapeBy, shapeAt, holdsAt}
 use Rattle.world.specs.declared.Property.the-variants.{Row, Nothing}
 use Rattle.world.specs.declared.FieldKind.the-variants.{Scalar, Objects, Object}
 use Rattle.world.proofs.Targets.{rows-past, rows-hit, rows-miss, rows-none, rows-first}
 
--- ---- the label that an entry asks, copied
+-- ---- the label that an entry asks: its field stands in cell 4
 
-pub asked-copied : (q : List ℕ) (k f n i : ℕ) (ps : List ℕ) → FromTable q 8 k ps i → 8 ≤ i → length ps ≡ 8 → QueryHeld q → k < cell q 0
-    → f ≡ wideAt q 8 k 4 → n ≡ wideAt q 8 k 5 → labelIs (record { field = fieldNo f; n = n; pairs = ps }) ≡ askedAt q k
-unfolding labelIs labelAt askedAt entryAt
-asked-copied q k f n i ps all h l held b ef en =
-    let long : 8 + 14 * k + 14 ≤ length q = omega (arith, held .long, held .entries) in
-    let p : pairs n ps ≡ pairs (wideAt q 8 k 5) (drop 4 (numbersAt q 8 k)) =
-    ap (λ (x : Label). x .args) (table-label q 8 k (wideAt q 8 k 3) n i ps all h l long (held .pairs k b) refl en) in
-    ap₂ (λ (x : ℕ) (xs : List Pair). record { field = fieldNo x; args = xs }) (ef ∙ sym (third-at q k))
-    (p ∙ ap (λ (x : ℕ). pairs x (drop 4 (numbersAt q 8 k))) (sym (count-at q k)))
-
-pub asked-few : (q : List ℕ) (k n : ℕ) → QueryHeld q → k < cell q 0 → n ≡ wideAt q 8 k 5 → n ≤ 4
-asked-few q k n held b en = omega (arith, held .pairs k b)
-
-pub ruleset asked-laws = (table-none, table-more, asked-copied, asked-few)
+asked-named : (q : List ℕ) (k : ℕ) → namedAt q 8 k 4 ≡ askedAt q k
+unfolding namedAt askedAt entryAt
+asked-named q k =
+    ap₂ (λ (x n : ℕ). record { field = fieldNo x; args = pairs n (drop 4 (numbersAt q 8 k)) }) (sym (third-at q k)) (sym (count-at q k))
 
 -- ---- a row held against a node and a label that is asked
 
-pub row-asked : (a : List ℕ) (base u j w : ℕ) (l : Label) (x y : Named) (b : Bool) → w ≡ wideAt a base j 2 → w ≡ u
-    → labelIs x ≡ labelAt a base j → labelIs y ≡ l → b ≡ sameLabel (labelIs x) (labelIs y) → b ≡ startsAt a base u l j
-row-asked a base u j w l x y b e s ex ey eb = same-node a base u j w l e (labelIs x) b s ex (eb ∙ ap (sameLabel (labelIs x)) ey)
+pub row-asked : (a : List ℕ) (base u j w : ℕ) (q : List ℕ) (k : ℕ) (x y : Named) (b : Bool) → w ≡ wideAt a base j 2 → w ≡ u
+    → labelIs x ≡ namedAt a base j 3 → labelIs y ≡ namedAt q 8 k 4 → b ≡ sameLabel (labelIs x) (labelIs y)
+    → b ≡ startsAt a base u (askedAt q k) j
+row-asked a base u j w q k x y b e s ex ey eb =
+    same-node a base u j w (askedAt q k) e (labelIs x) b s ex (eb ∙ ap (sameLabel (labelIs x)) (ey ∙ asked-named q k))
 
 -- ---- the loop that looks for the first row from j on: none of the rows before i
 

@@ -6,10 +6,8 @@ ghost use lib.Dec.{eqb};
 ghost use Rattle.tables.specs.Read.{cell, wideAt, startsAt, valuesAt};
 ghost use Rattle.schema.specs.Held.{SchemaHeld};
 ghost use Rattle.graph.specs.Held.{NodesHeld, PropertiesHeld};
-ghost use Rattle.graph.specs.Faults.{labelIs};
 ghost use Rattle.query.specs.Entries.{QueryHeld};
 ghost use Rattle.world.specs.World.{rootAt, askedAt, TableHeld, rowFrom, edgeFrom, lookupAt, shapeBy, shapeAt, holdsAt};
-use graph::Named;
 use rules::FieldNo;
 use rules::TypeNo;
 
@@ -26,28 +24,8 @@ pub enum Property {
     Nothing,
 }
 
-// The label that entry k of the query asks: field and pairs.
-pub fn asked_label(q: &[u32], k: usize) -> Named
-    requires { ⌜ QueryHeld (now q) ⌝ }
-    requires { ⌜ k < cell (now q) 0 ⌝ }
-    ensures { λ r. ⌜ labelIs r ≡ askedAt (now (q .entry)) k ⌝ }
-    ensures { λ r. ⌜ r .n ≤ 4 ⌝ }
-{
-    let mut pairs = [0u32; 8];
-    let mut i: usize = 0;
-    while i < 8 {
-        pairs[i] = query::entry_cell(q, k, 6 + i);
-        i += 1;
-    }
-    Named {
-        field: FieldNo(query::entry_cell(q, k, 4)),
-        n: query::entry_cell(q, k, 5),
-        pairs,
-    }
-}
-
-// Whether row j of a wide table is of node u and has the label that entry k asks.
-pub fn matches(a: &[u32], base: usize, n: usize, q: &[u32], k: usize, u: u32, j: usize) -> bool
+// Whether row j of a wide table is of node u and has the label that entry k asks, whose field stands in cell 4.
+fn matches(a: &[u32], base: usize, n: usize, q: &[u32], k: usize, u: u32, j: usize) -> bool
     requires { ⌜ TableHeld (now a) base n ⌝ }
     requires { ⌜ QueryHeld (now q) ⌝ }
     requires { ⌜ k < cell (now q) 0 ⌝ }
@@ -55,13 +33,13 @@ pub fn matches(a: &[u32], base: usize, n: usize, q: &[u32], k: usize, u: u32, j:
     ensures { λ r. ⌜ r ≡ startsAt (now (a .entry)) base u (askedAt (now (q .entry)) k) j ⌝ }
 {
     if graph::wide_at(a, base, j, 2) == u {
-        return graph::same_label(graph::label_at(a, base, j), asked_label(q, k));
+        return graph::same_label(graph::named_at(a, base, j, 3), graph::named_at(q, 8, k, 4));
     }
     false
 }
 
 // The first row from j on that is of node u and has the label that entry k asks; n where there is none.
-pub fn row_from(a: &[u32], base: usize, n: usize, q: &[u32], k: usize, u: u32, j: usize) -> usize
+fn row_from(a: &[u32], base: usize, n: usize, q: &[u32], k: usize, u: u32, j: usize) -> usize
     requires { ⌜ TableHeld (now a) base n ⌝ }
     requires { ⌜ QueryHeld (now q) ⌝ }
     requires { ⌜ k < cell (now q) 0 ⌝ }

@@ -37,4 +37,15 @@ returns c = search needs
 
 pub print-response-spec : {M : Type 1} → statement M
 print-response-spec =
-    tie.close (tie.spec Inv-loop μ-loop loop-holds mul-print-token shared-slice-read-print-token print-token-requires add-i loop-less loop-again returns)
+    tie.close
+    (tie.spec
+    Inv-loop
+    μ-loop
+    loop-holds
+    mul-print-token
+    shared-slice-read-print-token
+    print-token-requires
+    add-i
+    loop-less
+    loop-again
+    returns)

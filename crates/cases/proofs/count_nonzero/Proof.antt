@@ -1,13 +1,12 @@
 -- `cases::count_nonzero` counts at most as many numbers as the area has. Assumes nothing.
-use Prim.Native.Nat.{_-_, _≤_}
-use mathlib.Core.Path.{_≡_}
+use Prim.Native.Nat.{_-_}
 use borrow.Author.Needs.{needs}
-use lib.ListN.{length}
+use Rattle.cases.proofs.Counter.{Counts}
 use Rattle.cases.proofs.count_nonzero.Statement.{statement}
 use Rattle.cases.proofs.count_nonzero.Tie as tie
 
 abbrev Inv-loop : tie.InvT-loop
-Inv-loop area count₀ i₀ i-end count i = (i-end ≡ length area) × (count ≤ i) × (i ≤ i-end)
+Inv-loop area count₀ i₀ i-end count i = Counts area i-end count i
 
 abbrev μ-loop : tie.MeasureT-loop
 μ-loop area count₀ i₀ i-end count i = i-end - i

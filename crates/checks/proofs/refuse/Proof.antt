@@ -1,11 +1,9 @@
+-- `checks::refuse` meets its contract: number and spot are handed on. Assumes nothing.
 use mathlib.Core.Path.{refl}
 use Rattle.checks.specs.Verdict.{refusedBy}
 use Rattle.checks.proofs.refuse.Statement.{statement}
 use Rattle.checks.proofs.refuse.Tie as tie
-use Rattle.checks.proofs.refuse.Reads as reads
-use Rattle.checks.proofs.refuse.Lts as lts
 
--- src/lib.rt:21:1
 returns : tie.Need-returns
 unfolding refusedBy
 returns c = refl

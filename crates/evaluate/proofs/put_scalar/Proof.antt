@@ -6,7 +6,7 @@ use Rattle.tables.specs.Read.{valuesAt}
 use Rattle.world.specs.World.{askedAt, lookupAt, foundBy}
 use Rattle.world.specs.declared.Property.the-variants.{Row, Nothing}
 use Rattle.world.proofs.Targets.{properties-table, lookup-within}
-use Rattle.evaluate.proofs.Write.{Between, room-same, wrote-same, between-room, between-inside, between-last, between-all}
+use Rattle.evaluate.proofs.Write.{Between, room-one, room-same, wrote-same, between-room, between-inside, between-last, between-all}
 use Rattle.evaluate.proofs.Values.{shows-null, shows-value, shows-sequence}
 use Rattle.evaluate.proofs.put_scalar.Statement.{statement}
 use Rattle.evaluate.proofs.put_scalar.Tie as tie
@@ -28,7 +28,7 @@ none c = sym (c .before .before .lookup .ensures) ∙ c .enum-told .given .1
 put-requires : tie.Need-put-requires
 put-requires c κs =
     let start = c .before .before .before .before .before .before .before .before in
-    room-same (shows-null _ _ _ _ (none (c .before))) (start .pre .1 .1 .1 .1)
+    room-one (room-same (shows-null _ _ _ _ (none (c .before))) (start .pre .1 .1 .1 .1))
 
 same-length : tie.Need-same-length
 same-length c = search needs

@@ -4,7 +4,7 @@ use Prim.Native.Nat.{_+_, _≤_, _-_}
 use native.Mathlib.Omega.{arith}
 use borrow.Author.Needs.{needs}
 use lib.ListN.{length}
-use Rattle.form.proofs.Breaking.{BrokenLeft, broken-start, broken-stop, broken-on, broken-done, row-fits, row-inside}
+use Rattle.form.proofs.Breaking.{BrokenLeft, broken-start, broken-stop, broken-done, row-fits, line-turn-laws}
 use Rattle.form.proofs.first_broken.Statement.{statement}
 use Rattle.form.proofs.first_broken.Tie as tie
 
@@ -36,10 +36,10 @@ add-line : tie.Need-add-line Inv-loop μ-loop
 add-line c = search needs
 
 loop-less : tie.Need-loop-less Inv-loop μ-loop
-loop-less c = let h = row-inside _ _ _ (c .before .before .before .before .loop-test .taken) (c .before .before .before .read-row .ensures) _ _ (c .before .before .line-fault .ensures) (c .enum-told .given .1) in omega arith
+loop-less c = search line-turn-laws
 
 loop-again : tie.Need-loop-again Inv-loop μ-loop
-loop-again c = let h = row-inside _ _ _ (c .before .before .before .before .loop-test .taken) (c .before .before .before .read-row .ensures) _ _ (c .before .before .line-fault .ensures) (c .enum-told .given .1) in (search broken-on, omega arith, omega arith)
+loop-again c = search line-turn-laws
 
 returns-2 : tie.Need-returns-2 Inv-loop μ-loop
 returns-2 c = search broken-done

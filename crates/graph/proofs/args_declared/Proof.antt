@@ -1,4 +1,5 @@
--- `graph::args_declared` meets its contract. The loop's invariant: the pairs before pair i are not at fault. The measure is how many are left. Assumes nothing.
+-- `graph::args_declared` meets its contract. The loop's invariant: the pairs before pair i are not at fault. The measure is how many are left.
+-- Assumes nothing.
 use Prim.Native.Nat.{_≤_, _-_}
 use native.Mathlib.Omega.{arith}
 use lib.ListN.{getD}
@@ -59,8 +60,11 @@ loop-less c = search (declaring, needs)
 loop-again : tie.Need-loop-again Inv-loop μ-loop
 loop-again c =
     let l = c .before .before in
-    let s = l .before .before .before in
-    (declared-on _ _ _ _ (l .before .loop .inv .0) (l .loop-test .taken) (s .pre .1 .0) (s .pre .1 .1) (c .before .declared-arg .ensures) (not-false _ (c .if1 .left)), omega arith)
+    let s = l .before .before .before in (
+      declared-on _ _ _ _ (l .before .loop .inv .0) (l .loop-test .taken) (s .pre .1 .0) (s .pre .1 .1)
+          (c .before .declared-arg .ensures) (not-false _ (c .if1 .left)),
+      omega arith,
+    )
 
 returns-2 : tie.Need-returns-2 Inv-loop μ-loop
 returns-2 c = search (declaring, needs)

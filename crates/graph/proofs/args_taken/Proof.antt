@@ -1,4 +1,5 @@
--- `graph::args_taken` meets its contract. The loop's invariant: the pairs before pair i are not at fault. The measure is how many are left. Assumes nothing.
+-- `graph::args_taken` meets its contract. The loop's invariant: the pairs before pair i are not at fault. The measure is how many are left.
+-- Assumes nothing.
 use Prim.Native.Nat.{_≤_, _-_}
 use native.Mathlib.Omega.{arith}
 use lib.ListN.{getD}
@@ -79,9 +80,12 @@ cast-t27 c = search (taking, needs)
 
 returns-2 : tie.Need-returns-2 Inv-loop μ-loop
 returns-2 c =
-    let l = c .before .before .before .before .before in
+    let y = c .before .before in
+    let x = y .before .before in
+    let l = x .before in
     let s = l .before .before .before in
-    taken-beyond _ _ _ _ _ _ _ (l .before .loop .inv .0) (l .loop-test .taken) (s .pre .1 .0) (s .pre .1 .1) (c .before .before .before .before .takes-arg .ensures) (not-false _ (c .before .before .before .if1 .left)) (c .before .before .arg-type .ensures) (c .before .in-range .ensures) (not-true _ (c .if2 .taken))
+    taken-beyond _ _ _ _ _ _ _ (l .before .loop .inv .0) (l .loop-test .taken) (s .pre .1 .0) (s .pre .1 .1) (x .takes-arg .ensures)
+    (not-false _ (y .before .if1 .left)) (y .arg-type .ensures) (c .before .in-range .ensures) (not-true _ (c .if2 .taken))
 
 add-i : tie.Need-add-i Inv-loop μ-loop
 add-i c = search (taking, needs)
@@ -91,9 +95,14 @@ loop-less c = search (taking, needs)
 
 loop-again : tie.Need-loop-again Inv-loop μ-loop
 loop-again c =
-    let l = c .before .before .before .before .before in
-    let s = l .before .before .before in
-    (taken-on _ _ _ _ _ _ _ (l .before .loop .inv .0) (l .loop-test .taken) (s .pre .1 .0) (s .pre .1 .1) (c .before .before .before .before .takes-arg .ensures) (not-false _ (c .before .before .before .if1 .left)) (c .before .before .arg-type .ensures) (c .before .in-range .ensures) (not-false _ (c .if2 .left)), omega arith)
+    let y = c .before .before in
+    let x = y .before .before in
+    let l = x .before in
+    let s = l .before .before .before in (
+      taken-on _ _ _ _ _ _ _ (l .before .loop .inv .0) (l .loop-test .taken) (s .pre .1 .0) (s .pre .1 .1) (x .takes-arg .ensures)
+          (not-false _ (y .before .if1 .left)) (y .arg-type .ensures) (c .before .in-range .ensures) (not-false _ (c .if2 .left)),
+      omega arith,
+    )
 
 returns-3 : tie.Need-returns-3 Inv-loop μ-loop
 returns-3 c = search (taking, needs)

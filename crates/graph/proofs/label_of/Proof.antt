@@ -3,12 +3,12 @@ use Prim.Native.Nat.{_≤_, _-_}
 use mathlib.Core.Path.{_≡_}
 use lib.ListN.{length}
 use borrow.Author.Needs.{needs}
-use Rattle.graph.proofs.Copying.{FromRow, copying}
+use Rattle.graph.proofs.Copying.{Copied, fromRow, copying}
 use Rattle.graph.proofs.label_of.Statement.{statement}
 use Rattle.graph.proofs.label_of.Tie as tie
 
 abbrev Inv-loop : tie.InvT-loop
-Inv-loop nums pairs₀ i₀ pairs i = FromRow nums pairs i × ((i ≤ 8) × (length pairs ≡ 8))
+Inv-loop nums pairs₀ i₀ pairs i = Copied (fromRow nums) pairs i × ((i ≤ 8) × (length pairs ≡ 8))
 
 abbrev μ-loop : tie.MeasureT-loop
 μ-loop nums pairs₀ i₀ pairs i = 8 - i

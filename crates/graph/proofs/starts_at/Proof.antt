@@ -7,8 +7,8 @@ use Rattle.graph.proofs.starts_at.Tie as tie
 wide-at-requires : tie.Need-wide-at-requires
 wide-at-requires c κs = search needs
 
-label-at-requires : tie.Need-label-at-requires
-label-at-requires c κs = search needs
+named-at-requires : tie.Need-named-at-requires
+named-at-requires c κs = search needs
 
 same-label-requires : tie.Need-same-label-requires
 same-label-requires c κs = search needs
@@ -21,4 +21,4 @@ returns-2 c = search (starting, needs)
 
 pub starts-at-spec : {M : Type 1} → statement M
 starts-at-spec =
-    tie.close (tie.spec wide-at-requires label-at-requires same-label-requires returns returns-2)
+    tie.close (tie.spec wide-at-requires named-at-requires same-label-requires returns returns-2)

@@ -1,7 +1,7 @@
 -- `graph::type_of` meets its contract. Assumes nothing.
 use borrow.Author.Needs.{needs}
 use Rattle.graph.specs.Faults.{nodesAt}
-use Rattle.graph.proofs.Copying.{same-type}
+use Rattle.schema.proofs.Letters.{same-type}
 use Rattle.graph.proofs.type_of.Statement.{statement}
 use Rattle.graph.proofs.type_of.Tie as tie
 

@@ -1,4 +1,5 @@
--- `graph::values_fault` meets its contract. The loop's invariant: the values before value i are not at fault. The measure is how many are left. Assumes nothing.
+-- `graph::values_fault` meets its contract. The loop's invariant: the values before value i are not at fault. The measure is how many are left.
+-- Assumes nothing.
 use Prim.Native.Nat.{_+_, _≤_, _-_}
 use native.Mathlib.Omega.{arith}
 use lib.ListN.{length}
@@ -10,7 +11,8 @@ use Rattle.graph.proofs.values_fault.Statement.{statement}
 use Rattle.graph.proofs.values_fault.Tie as tie
 
 abbrev Inv-loop : tie.InvT-loop
-Inv-loop a p v j t from start front all i₀ i = ValuesLeft a t v (valuesAt p v j) from start front all i × ((front ≤ i) × (start + (all - front) ≤ length v))
+Inv-loop a p v j t from start front all i₀ i =
+    ValuesLeft a t v (valuesAt p v j) from start front all i × ((front ≤ i) × (start + (all - front) ≤ length v))
 
 abbrev μ-loop : tie.MeasureT-loop
 μ-loop a p v j t from start front all i₀ i = all - i
@@ -76,7 +78,8 @@ returns c =
     let l = c .before .before .before in
     let i = l .before .loop .inv in
     let s = l .before .before .before .before .before .before .before .before in
-    values-broken _ _ _ _ _ _ _ _ _ _ (i .0) (l .loop-test .taken) (i .1 .0) (i .1 .1) (s .pre .1 .1 .1 .0) (c .before .in-range .ensures) (not-true _ (c .if1 .taken))
+    values-broken _ _ _ _ _ _ _ _ _ _ (i .0) (l .loop-test .taken) (i .1 .0) (i .1 .1) (s .pre .1 .1 .1 .0) (c .before .in-range .ensures)
+    (not-true _ (c .if1 .taken))
 
 add-i : tie.Need-add-i Inv-loop μ-loop
 add-i c = search (valuing, needs)
@@ -87,8 +90,11 @@ loop-less c = search (valuing, needs)
 loop-again : tie.Need-loop-again Inv-loop μ-loop
 loop-again c =
     let l = c .before .before .before in
-    let i = l .before .loop .inv in
-    (values-on _ _ _ _ _ _ _ _ _ _ (i .0) (l .loop-test .taken) (i .1 .0) (i .1 .1) (c .before .in-range .ensures) (not-false _ (c .if1 .left)), (omega arith, i .1 .1))
+    let i = l .before .loop .inv in (
+      values-on _ _ _ _ _ _ _ _ _ _ (i .0) (l .loop-test .taken) (i .1 .0) (i .1 .1) (c .before .in-range .ensures)
+          (not-false _ (c .if1 .left)),
+      (omega arith, i .1 .1),
+    )
 
 returns-2 : tie.Need-returns-2 Inv-loop μ-loop
 returns-2 c = search (valuing, needs)

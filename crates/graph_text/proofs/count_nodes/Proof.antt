@@ -39,7 +39,11 @@ loop-less c = omega arith
 
 loop-again : tie.Need-loop-again Inv-loop μ-loop
 unfolding cell
-loop-again c = (passed-hit _ _ _ _ _ (c .before .before .before .before .before .loop .inv .0) (c .before .before .before .before .loop-test .taken) (c .before .before .before .type-of .ensures) (c .if1 .taken), omega arith, omega arith)
+loop-again c =
+    let node = c .before .before .before in
+    let turn = node .before in
+    let hit = passed-hit _ _ _ _ _ (turn .before .loop .inv .0) (turn .loop-test .taken) (node .type-of .ensures) (c .if1 .taken) in
+    (hit, omega arith, omega arith)
 
 loop-less-2 : tie.Need-loop-less-2 Inv-loop μ-loop
 unfolding cell
@@ -47,7 +51,11 @@ loop-less-2 c = omega arith
 
 loop-again-2 : tie.Need-loop-again-2 Inv-loop μ-loop
 unfolding cell
-loop-again-2 c = (passed-miss _ _ _ _ _ (c .before .before .before .before .before .loop .inv .0) (c .before .before .before .before .loop-test .taken) (c .before .before .before .type-of .ensures) (c .if1 .left), omega arith, omega arith)
+loop-again-2 c =
+    let node = c .before .before .before in
+    let turn = node .before in
+    let miss = passed-miss _ _ _ _ _ (turn .before .loop .inv .0) (turn .loop-test .taken) (node .type-of .ensures) (c .if1 .left) in
+    (miss, omega arith, omega arith)
 
 returns : tie.Need-returns Inv-loop μ-loop
 unfolding cell

@@ -1,218 +1,156 @@
--- `graph_text::judge_graph_rows` meets its contract: each answer of the search is one check more of the verdict. Assumes nothing.
-use mathlib.Core.Path.{refl, sym, ap, _∙_}
+-- `graph_text::judge_graph_rows` meets its contract: each search strikes one check off those that are left. Assumes nothing.
+use mathlib.Core.Path.{refl, ap, _∙_}
+use mathlib.Core.List.{List, [], _∷_}
+use Prim.Native.Nat.{ℕ}
+use borrow.Author.Needs.{needs}
 use Rattle.search.specs.Search.{areas, SearchedFor}
 use Rattle.checks.specs.Verdict.{refusedBy}
-use Rattle.checks.proofs.Judging.{ready-graph}
-use Rattle.graph_text.proofs.GraphJudging.{nodes-ready, at-22, past-22, at-23, past-23, at-24, past-24, at-25, past-25, at-26, past-26, at-27, past-27}
-use borrow.Author.Needs.{needs}
+use Rattle.checks.proofs.Judging.{stop, pass, ask-graph}
+use Rattle.graph_text.proofs.GraphJudging.{GraphLeft, nodes-ready, all-left, at-27, past-27}
 use Rattle.graph_text.proofs.judge_graph_rows.Statement.{statement}
 use Rattle.graph_text.proofs.judge_graph_rows.Tie as tie
 
-first-offence-requires : tie.Need-first-offence-requires
+-- ---- the start of the function from each search, and the checks that are left behind it
+
+abbrev start-22 : tie.After-first-offence → tie.Start
+start-22 c = c .before .before .before .before .before .before
+
+abbrev start-23 : tie.After-first-offence2 → tie.Start
+start-23 c = start-22 (c .before .before .before)
+
+abbrev start-24 : tie.After-first-offence3 → tie.Start
+start-24 c = start-23 (c .before .before .before)
+
+abbrev start-25 : tie.After-first-offence4 → tie.Start
+start-25 c = start-24 (c .before .before .before)
+
+abbrev start-26 : tie.After-first-offence5 → tie.Start
+start-26 c = start-25 (c .before .before .before)
+
+abbrev LeftAt : tie.Start → List ℕ → Type 0
+LeftAt o ns = GraphLeft (o .args .s .now) (o .args .a .now) (o .args .g .now) (o .args .p .now) (o .args .v .now) ns
+
+left-22 : (c : tie.After-first-offence) → LeftAt (start-22 c) (22 ∷ 23 ∷ 24 ∷ 25 ∷ 26 ∷ [])
+left-22 c =
+    let o = start-22 c in
+    all-left (o .args .s .now) (o .args .a .now) (o .args .g .now) (o .args .p .now) (o .args .v .now) (o .pre .1 .1)
+
+left-23 : (c : tie.Else1) → LeftAt (start-22 (c .before .before)) (23 ∷ 24 ∷ 25 ∷ 26 ∷ [])
+left-23 c = let found = c .before .before in pass (left-22 found) (found .first-offence .ensures) (c .if1 .left)
+
+left-24 : (c : tie.Else2) → LeftAt (start-23 (c .before .before)) (24 ∷ 25 ∷ 26 ∷ [])
+left-24 c = let found = c .before .before in pass (left-23 (found .before)) (found .first-offence2 .ensures) (c .if2 .left)
+
+left-25 : (c : tie.Else3) → LeftAt (start-24 (c .before .before)) (25 ∷ 26 ∷ [])
+left-25 c = let found = c .before .before in pass (left-24 (found .before)) (found .first-offence3 .ensures) (c .if3 .left)
+
+left-26 : (c : tie.Else4) → LeftAt (start-25 (c .before .before)) (26 ∷ [])
+left-26 c = let found = c .before .before in pass (left-25 (found .before)) (found .first-offence4 .ensures) (c .if4 .left)
+
+left-27 : (c : tie.Else5) → LeftAt (start-26 (c .before .before)) []
+left-27 c = let found = c .before .before in pass (left-26 (found .before)) (found .first-offence5 .ensures) (c .if5 .left)
+
+-- ---- the answers
+
+asks-22 : tie.Need-first-offence-requires
 unfolding SearchedFor
-first-offence-requires c κs =
-    let h = c .before .before .before .before .before .pre in (refl, (h .0, (h .1 .0, ready-graph 22 _ _ refl (h .1 .1))))
+asks-22 c κs =
+    let o = c .before .before .before .before .before in ask-graph _ (o .args .s .now) _ refl refl (o .pre)
 
-refuse-requires : tie.Need-refuse-requires
-refuse-requires c κs = search needs
+returns-22 : tie.Need-returns
+returns-22 c =
+    let found = c .before .before .before in
+    stop (left-22 found) (found .first-offence .ensures) (c .before .if1 .taken) (c .refuse .ensures)
 
-returns : tie.Need-returns
-unfolding areas
-returns c =
-    let e1 = c .before in
-    let o = e1 .before .before .before .before .before .before .before .before in
-    let s = o .args .s .now in
-    let r = o .pre .1 .1 in
-    c .refuse .ensures
-    ∙ sym
-    (at-22 s _ r _ (e1 .before .before .first-offence .ensures) (e1 .if1 .taken))
-
-first-offence-requires-2 : tie.Need-first-offence-requires-2
+asks-23 : tie.Need-first-offence-requires-2
 unfolding SearchedFor
-first-offence-requires-2 c κs =
-    let h = c .before .before .before .before .before .before .before .before .pre in (refl, (h .0, (h .1 .0, ready-graph 23 _ _ refl (h .1 .1))))
+asks-23 c κs = let o = start-22 (c .before .before) in ask-graph _ (o .args .s .now) _ refl refl (o .pre)
 
-refuse-requires-2 : tie.Need-refuse-requires-2
-refuse-requires-2 c κs = search needs
+returns-23 : tie.Need-returns-2
+returns-23 c =
+    let found = c .before .before .before in
+    stop (left-23 (found .before)) (found .first-offence2 .ensures) (c .before .if2 .taken) (c .refuse2 .ensures)
 
-returns-2 : tie.Need-returns-2
-unfolding areas
-returns-2 c =
-    let e2 = c .before in
-    let e1 = e2 .before .before .before in
-    let o = e1 .before .before .before .before .before .before .before .before in
-    let s = o .args .s .now in
-    let r = o .pre .1 .1 in
-    c .refuse2 .ensures
-    ∙ sym
-    (past-22 s _ r _ (e1 .before .before .first-offence .ensures) (e1 .if1 .left)
-    ∙ at-23 s _ r _ (e2 .before .before .first-offence2 .ensures) (e2 .if2 .taken))
-
-first-offence-requires-3 : tie.Need-first-offence-requires-3
+asks-24 : tie.Need-first-offence-requires-3
 unfolding SearchedFor
-first-offence-requires-3 c κs =
-    let h = c .before .before .before .before .before .before .before .before .before .before .before .pre in (refl, (h .0, (h .1 .0, ready-graph 24 _ _ refl (h .1 .1))))
+asks-24 c κs = let o = start-23 (c .before .before) in ask-graph _ (o .args .s .now) _ refl refl (o .pre)
 
-refuse-requires-3 : tie.Need-refuse-requires-3
-refuse-requires-3 c κs = search needs
+returns-24 : tie.Need-returns-3
+returns-24 c =
+    let found = c .before .before .before in
+    stop (left-24 (found .before)) (found .first-offence3 .ensures) (c .before .if3 .taken) (c .refuse3 .ensures)
 
-returns-3 : tie.Need-returns-3
-unfolding areas
-returns-3 c =
-    let e3 = c .before in
-    let e2 = e3 .before .before .before in
-    let e1 = e2 .before .before .before in
-    let o = e1 .before .before .before .before .before .before .before .before in
-    let s = o .args .s .now in
-    let r = o .pre .1 .1 in
-    c .refuse3 .ensures
-    ∙ sym
-    (past-22 s _ r _ (e1 .before .before .first-offence .ensures) (e1 .if1 .left)
-    ∙ past-23 s _ r _ (e2 .before .before .first-offence2 .ensures) (e2 .if2 .left)
-    ∙ at-24 s _ r _ (e3 .before .before .first-offence3 .ensures) (e3 .if3 .taken))
-
-first-offence-requires-4 : tie.Need-first-offence-requires-4
+asks-25 : tie.Need-first-offence-requires-4
 unfolding SearchedFor
-first-offence-requires-4 c κs =
-    let h = c .before .before .before .before .before .before .before .before .before .before .before .before .before .before .pre in (refl, (h .0, (h .1 .0, ready-graph 25 _ _ refl (h .1 .1))))
+asks-25 c κs = let o = start-24 (c .before .before) in ask-graph _ (o .args .s .now) _ refl refl (o .pre)
 
-refuse-requires-4 : tie.Need-refuse-requires-4
-refuse-requires-4 c κs = search needs
+returns-25 : tie.Need-returns-4
+returns-25 c =
+    let found = c .before .before .before in
+    stop (left-25 (found .before)) (found .first-offence4 .ensures) (c .before .if4 .taken) (c .refuse4 .ensures)
 
-returns-4 : tie.Need-returns-4
-unfolding areas
-returns-4 c =
-    let e4 = c .before in
-    let e3 = e4 .before .before .before in
-    let e2 = e3 .before .before .before in
-    let e1 = e2 .before .before .before in
-    let o = e1 .before .before .before .before .before .before .before .before in
-    let s = o .args .s .now in
-    let r = o .pre .1 .1 in
-    c .refuse4 .ensures
-    ∙ sym
-    (past-22 s _ r _ (e1 .before .before .first-offence .ensures) (e1 .if1 .left)
-    ∙ past-23 s _ r _ (e2 .before .before .first-offence2 .ensures) (e2 .if2 .left)
-    ∙ past-24 s _ r _ (e3 .before .before .first-offence3 .ensures) (e3 .if3 .left)
-    ∙ at-25 s _ r _ (e4 .before .before .first-offence4 .ensures) (e4 .if4 .taken))
-
-first-offence-requires-5 : tie.Need-first-offence-requires-5
+asks-26 : tie.Need-first-offence-requires-5
 unfolding SearchedFor
-first-offence-requires-5 c κs =
-    let h = c .before .before .before .before .before .before .before .before .before .before .before .before .before .before .before .before .before .pre in (refl, (h .0, (h .1 .0, ready-graph 26 _ _ refl (h .1 .1))))
+asks-26 c κs = let o = start-25 (c .before .before) in ask-graph _ (o .args .s .now) _ refl refl (o .pre)
 
-refuse-requires-5 : tie.Need-refuse-requires-5
-refuse-requires-5 c κs = search needs
+returns-26 : tie.Need-returns-5
+returns-26 c =
+    let found = c .before .before .before in
+    stop (left-26 (found .before)) (found .first-offence5 .ensures) (c .before .if5 .taken) (c .refuse5 .ensures)
 
-returns-5 : tie.Need-returns-5
+asks-type : tie.Need-query-type-requires
 unfolding areas
-returns-5 c =
-    let e5 = c .before in
-    let e4 = e5 .before .before .before in
-    let e3 = e4 .before .before .before in
-    let e2 = e3 .before .before .before in
-    let e1 = e2 .before .before .before in
-    let o = e1 .before .before .before .before .before .before .before .before in
-    let s = o .args .s .now in
-    let r = o .pre .1 .1 in
-    c .refuse5 .ensures
-    ∙ sym
-    (past-22 s _ r _ (e1 .before .before .first-offence .ensures) (e1 .if1 .left)
-    ∙ past-23 s _ r _ (e2 .before .before .first-offence2 .ensures) (e2 .if2 .left)
-    ∙ past-24 s _ r _ (e3 .before .before .first-offence3 .ensures) (e3 .if3 .left)
-    ∙ past-25 s _ r _ (e4 .before .before .first-offence4 .ensures) (e4 .if4 .left)
-    ∙ at-26 s _ r _ (e5 .before .before .first-offence5 .ensures) (e5 .if5 .taken))
+asks-type c κs = start-26 (c .before .before) .pre .1 .1 .schema
 
-query-type-requires : tie.Need-query-type-requires
-unfolding areas
-query-type-requires c κs =
-    let o = c .before .before .before .before .before .before .before .before .before .before .before .before .before .before .before .before .before .before .before .before in o .pre .1 .1 .schema
+asks-count : tie.Need-count-nodes-requires
+asks-count c κs =
+    let o = start-26 (c .before .before .before) in
+    nodes-ready (o .args .s .now) (o .args .a .now) (o .args .g .now) (o .args .p .now) (o .args .v .now) (o .pre .1 .1)
 
-count-nodes-requires : tie.Need-count-nodes-requires
-unfolding areas
-count-nodes-requires c κs =
-    let o = c .before .before .before .before .before .before .before .before .before .before .before .before .before .before .before .before .before .before .before .before .before in nodes-ready (o .args .s .now) _ (o .pre .1 .1)
+returns-27 : tie.Need-returns-6
+returns-27 c =
+    let here = c .before .before in
+    let counted = here .before in
+    let left = counted .before .before in
+    let o = start-26 (left .before .before) in
+    at-27 (o .args .s .now) (o .args .a .now) (o .args .g .now) (o .args .p .now) (o .args .v .now) (o .pre .1 .1)
+    _ _ (counted .before .query-type .ensures) (counted .count-nodes .ensures) (left-27 left) (here .if6 .taken)
+    (c .refuse6 .ensures ∙ ap (refusedBy 27) (c .before .nowhere .ensures))
 
-nowhere-requires : tie.Need-nowhere-requires
-nowhere-requires c κs = search needs
-
-refuse-requires-6 : tie.Need-refuse-requires-6
-refuse-requires-6 c κs = search needs
-
-returns-6 : tie.Need-returns-6
-unfolding areas
-returns-6 c =
-    let n = c .before .before in
-    let e5 = n .before .before .before in
-    let e4 = e5 .before .before .before in
-    let e3 = e4 .before .before .before in
-    let e2 = e3 .before .before .before in
-    let e1 = e2 .before .before .before in
-    let o = e1 .before .before .before .before .before .before .before .before in
-    let s = o .args .s .now in
-    let r = o .pre .1 .1 in
-    c .refuse6 .ensures
-    ∙ ap (refusedBy 27) (c .before .nowhere .ensures)
-    ∙ sym
-    (past-22 s _ r _ (e1 .before .before .first-offence .ensures) (e1 .if1 .left)
-    ∙ past-23 s _ r _ (e2 .before .before .first-offence2 .ensures) (e2 .if2 .left)
-    ∙ past-24 s _ r _ (e3 .before .before .first-offence3 .ensures) (e3 .if3 .left)
-    ∙ past-25 s _ r _ (e4 .before .before .first-offence4 .ensures) (e4 .if4 .left)
-    ∙ past-26 s _ r _ (e5 .before .before .first-offence5 .ensures) (e5 .if5 .left)
-    ∙ at-27 s _ r _ _ (n .before .before .query-type .ensures) (n .before .count-nodes .ensures) (n .if6 .taken))
-
-nowhere-requires-2 : tie.Need-nowhere-requires-2
-nowhere-requires-2 c κs = search needs
-
-refuse-requires-7 : tie.Need-refuse-requires-7
-refuse-requires-7 c κs = search needs
-
-returns-7 : tie.Need-returns-7
-unfolding areas
-returns-7 c =
-    let n = c .before .before in
-    let e5 = n .before .before .before in
-    let e4 = e5 .before .before .before in
-    let e3 = e4 .before .before .before in
-    let e2 = e3 .before .before .before in
-    let e1 = e2 .before .before .before in
-    let o = e1 .before .before .before .before .before .before .before .before in
-    let s = o .args .s .now in
-    let r = o .pre .1 .1 in
-    c .refuse7 .ensures
-    ∙ ap (refusedBy 0) (c .before .nowhere2 .ensures)
-    ∙ sym
-    (past-22 s _ r _ (e1 .before .before .first-offence .ensures) (e1 .if1 .left)
-    ∙ past-23 s _ r _ (e2 .before .before .first-offence2 .ensures) (e2 .if2 .left)
-    ∙ past-24 s _ r _ (e3 .before .before .first-offence3 .ensures) (e3 .if3 .left)
-    ∙ past-25 s _ r _ (e4 .before .before .first-offence4 .ensures) (e4 .if4 .left)
-    ∙ past-26 s _ r _ (e5 .before .before .first-offence5 .ensures) (e5 .if5 .left)
-    ∙ past-27 s _ r _ _ (n .before .before .query-type .ensures) (n .before .count-nodes .ensures) (n .if6 .left))
+returns-0 : tie.Need-returns-7
+returns-0 c =
+    let here = c .before .before in
+    let counted = here .before in
+    let left = counted .before .before in
+    let o = start-26 (left .before .before) in
+    past-27 (o .args .s .now) (o .args .a .now) (o .args .g .now) (o .args .p .now) (o .args .v .now) (o .pre .1 .1)
+    _ _ (counted .before .query-type .ensures) (counted .count-nodes .ensures) (left-27 left) (here .if6 .left)
+    (c .refuse7 .ensures ∙ ap (refusedBy 0) (c .before .nowhere2 .ensures))
 
 pub judge-graph-rows-spec : {M : Type 1} → statement M
 judge-graph-rows-spec =
     tie.close
     (tie.spec
-    first-offence-requires
-    refuse-requires
-    returns
-    first-offence-requires-2
-    refuse-requires-2
-    returns-2
-    first-offence-requires-3
-    refuse-requires-3
-    returns-3
-    first-offence-requires-4
-    refuse-requires-4
-    returns-4
-    first-offence-requires-5
-    refuse-requires-5
-    returns-5
-    query-type-requires
-    count-nodes-requires
-    nowhere-requires
-    refuse-requires-6
-    returns-6
-    nowhere-requires-2
-    refuse-requires-7
-    returns-7)
+    asks-22
+    (λ c κs. search needs)
+    returns-22
+    asks-23
+    (λ c κs. search needs)
+    returns-23
+    asks-24
+    (λ c κs. search needs)
+    returns-24
+    asks-25
+    (λ c κs. search needs)
+    returns-25
+    asks-26
+    (λ c κs. search needs)
+    returns-26
+    asks-type
+    asks-count
+    (λ c κs. search needs)
+    (λ c κs. search needs)
+    returns-27
+    (λ c κs. search needs)
+    (λ c κs. search needs)
+    returns-0)

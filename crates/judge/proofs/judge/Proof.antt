@@ -1,121 +1,82 @@
 -- `judge::judge` meets its contract: an area that is too short is refused by 2, and else the texts' verdict is given. Assumes nothing.
-use native.Mathlib.Omega.{arith}
-use mathlib.Core.Path.{sym, ap, _∙_}
+use mathlib.Core.Bool.{false}
+use mathlib.Core.Path.{_≡_, sym, ap, _∙_}
+use lib.ListN.{length, take}
 use lib.Seq.{length-take-le}
 use borrow.Author.Needs.{needs}
 use Rattle.checks.specs.Verdict.{refusedBy}
-use Rattle.judge.specs.Texts.{lent}
-use Rattle.judge.proofs.Texts.{too-short, long-areas, widened}
+use Rattle.judge.specs.Texts.{Lent, lent, tooShortOf}
+use Rattle.judge.proofs.Texts.{too-short, Long, long-areas, widened}
 use Rattle.judge.proofs.judge.Statement.{statement}
 use Rattle.judge.proofs.judge.Tie as tie
 
-short-requires : tie.Need-short-requires
-short-requires c κs = search needs
+-- the start of the function, and the areas lent there
+abbrev start : tie.After-short → tie.Start
+start c = c .before .before .before .before .before .before .before .before .before .before .before .before .before .before
 
-nowhere-requires : tie.Need-nowhere-requires
-nowhere-requires c κs = search needs
+abbrev work : tie.Start → Lent
+work o = lent (o .args .a .now) (o .args .g .now) (o .args .p .now) (o .args .v .now) (o .args .q .now)
 
-refuse-requires : tie.Need-refuse-requires
-refuse-requires c κs = search needs
+-- past the test none of them is too short
+enough : (c : tie.Else1) → tooShortOf (work (start (c .before))) ≡ false
+enough c = sym (c .before .short .ensures) ∙ c .if1 .left
 
-same-length : tie.Need-same-length
-same-length c = search needs
+long : (c : tie.Else1) → Long (work (start (c .before)))
+long c = long-areas (work (start (c .before))) (enough c)
 
-same-length-2 : tie.Need-same-length-2
-same-length-2 c = search needs
-
-same-length-3 : tie.Need-same-length-3
-same-length-3 c = search needs
-
-same-length-4 : tie.Need-same-length-4
-same-length-4 c = search needs
-
-same-length-5 : tie.Need-same-length-5
-same-length-5 c = search needs
-
-returns : tie.Need-returns
+values-needed : (c : tie.Else1) → length (take 8200 (start (c .before) .args .v .now)) ≡ 8200
 unfolding lent
-returns c =
-    let e = c .before .before in
-    let o = e .before .before .before .before .before .before .before .before .before .before .before .before .before .before .before in
-    let w = lent (o .args .a .now) (o .args .g .now) (o .args .p .now) (o .args .v .now) (o .args .q .now) in
-    too-short (o .args .schema .now) (o .args .graph .now) (o .args .query .now) w _ _
-    (sym (e .before .short .ensures) ∙ e .if1 .taken) (c .refuse .ensures ∙ ap (refusedBy 2) (c .before .nowhere .ensures))
+values-needed c = length-take-le 8200 (start (c .before) .args .v .now) (long c .values)
 
-slice-relend-prefix-judge-texts : tie.Need-slice-relend-prefix-judge-texts
+returns-short : tie.Need-returns
+returns-short c =
+    let here = c .before .before in
+    let o = start (here .before) in
+    too-short (o .args .schema .now) (o .args .graph .now) (o .args .query .now) (work o) _ _
+    (sym (here .before .short .ensures) ∙ here .if1 .taken) (c .refuse .ensures ∙ ap (refusedBy 2) (c .before .nowhere .ensures))
+
+lends-values : tie.Need-slice-relend-prefix-judge-texts
 unfolding lent
-slice-relend-prefix-judge-texts c =
-    let e = c .before .before .before in
-    let o = e .before .before .before .before .before .before .before .before .before .before .before .before .before .before .before in
-    let w = lent (o .args .a .now) (o .args .g .now) (o .args .p .now) (o .args .v .now) (o .args .q .now) in
-    let long = long-areas w (sym (e .before .short .ensures) ∙ e .if1 .left) in
-    long .values
+lends-values c = long (c .before .before .before) .values
 
-slice-aggregate-judge-texts : tie.Need-slice-aggregate-judge-texts
+values-lent : tie.Need-slice-aggregate-judge-texts
+values-lent c = simp (values-needed (c .before .before .before .before))
+
+asks-texts : tie.Need-judge-texts-requires
 unfolding lent
-slice-aggregate-judge-texts c =
-    let e = c .before .before .before .before in
-    let o = e .before .before .before .before .before .before .before .before .before .before .before .before .before .before .before in
-    let w = lent (o .args .a .now) (o .args .g .now) (o .args .p .now) (o .args .v .now) (o .args .q .now) in
-    let long = long-areas w (sym (e .before .short .ensures) ∙ e .if1 .left) in
-    simp (length-take-le 8200 (o .args .v .now) (long .values))
+asks-texts c κs =
+    let here = c .before .before .before .before .before in
+    let h = long here in
+    (h .schema, (h .nodes, (h .properties, (values-needed here, h .query))))
 
-judge-texts-requires : tie.Need-judge-texts-requires
+returns-texts : tie.Need-returns-2
 unfolding lent
-judge-texts-requires c κs =
-    let e = c .before .before .before .before .before in
-    let o = e .before .before .before .before .before .before .before .before .before .before .before .before .before .before .before in
-    let w = lent (o .args .a .now) (o .args .g .now) (o .args .p .now) (o .args .v .now) (o .args .q .now) in
-    let long = long-areas w (sym (e .before .short .ensures) ∙ e .if1 .left) in
-    (long .schema, (long .nodes, (long .properties, (length-take-le 8200 (o .args .v .now) (long .values), long .query))))
-
-same-length-6 : tie.Need-same-length-6
-same-length-6 c = search needs
-
-same-length-7 : tie.Need-same-length-7
-same-length-7 c = search needs
-
-same-length-8 : tie.Need-same-length-8
-same-length-8 c = search needs
-
-same-length-9 : tie.Need-same-length-9
-same-length-9 c = search needs
-
-same-length-10 : tie.Need-same-length-10
-same-length-10 c = search needs
-
-returns-2 : tie.Need-returns-2
-unfolding lent
-returns-2 c =
-    let e = c .before .before .before .before .before .before .before .before .before .before .before .before .before .before .before .before in
-    let o = e .before .before .before .before .before .before .before .before .before .before .before .before .before .before .before in
-    let w = lent (o .args .a .now) (o .args .g .now) (o .args .p .now) (o .args .v .now) (o .args .q .now) in
-    let long = long-areas w (sym (e .before .short .ensures) ∙ e .if1 .left) in
-    let t = c .before .before .before .before .before .before .before .before .before .before in
+returns-texts c =
+    let texts = c .before .before .before .before .before .before .before .before .before .before in
+    let here = texts .before .before .before .before .before .before in
+    let o = start (here .before) in
     widened (o .args .schema .now) (o .args .graph .now) (o .args .query .now) _ _ _ (o .args .v .now) _ _ _ _ _ _ _ _
-    (sym (e .before .short .ensures) ∙ e .if1 .left)
-    (t .judge-texts .kept .1 .1 .1 .1 .1 .1 .0 ∙ length-take-le 8200 (o .args .v .now) (long .values))
-    (t .judge-texts .ensures)
+    (enough here) (texts .judge-texts .kept .1 .1 .1 .1 .1 .1 .0 ∙ values-needed here) (texts .judge-texts .ensures)
 
 pub judge-spec : {M : Type 1} → statement M
 judge-spec =
     tie.close
     (tie.spec
-    short-requires
-    nowhere-requires
-    refuse-requires
-    same-length
-    same-length-2
-    same-length-3
-    same-length-4
-    same-length-5
-    returns
-    slice-relend-prefix-judge-texts
-    slice-aggregate-judge-texts
-    judge-texts-requires
-    same-length-6
-    same-length-7
-    same-length-8
-    same-length-9
-    same-length-10
-    returns-2)
+    (λ c κs. search needs)
+    (λ c κs. search needs)
+    (λ c κs. search needs)
+    (λ c. search needs)
+    (λ c. search needs)
+    (λ c. search needs)
+    (λ c. search needs)
+    (λ c. search needs)
+    returns-short
+    lends-values
+    values-lent
+    asks-texts
+    (λ c. search needs)
+    (λ c. search needs)
+    (λ c. search needs)
+    (λ c. search needs)
+    (λ c. search needs)
+    returns-texts)

@@ -1,134 +1,105 @@
 -- `judge::judge_texts` meets its contract: each text's verdict in turn, by the laws of `Texts`. Assumes nothing.
 use native.Mathlib.Omega.{arith}
-use mathlib.Core.Path.{refl}
-use lib.ListN.{length}
+use mathlib.Core.Bool.{false}
+use mathlib.Core.Path.{_≡_, refl}
 use borrow.Author.Needs.{needs}
-use Rattle.judge.specs.Texts.{lent}
+use Rattle.schema.specs.Held.{SchemaHeld}
+use Rattle.judge.specs.Texts.{Lent, lent, tooShortOf}
 use Rattle.judge.proofs.Texts.{enough, schema-refused, held-schema, graph-refused, all-accepted}
 use Rattle.judge.proofs.judge_texts.Statement.{statement}
 use Rattle.judge.proofs.judge_texts.Tie as tie
 
-judge-schema-requires : tie.Need-judge-schema-requires
-judge-schema-requires c κs = search needs
+-- the start of the function, and the place behind the schema
+abbrev start : tie.After-judge-schema → tie.Start
+start c = c .before .before .before .before .before .before .before .before .before .before
 
-same-length : tie.Need-same-length
-same-length c = search needs
+abbrev schema-judged : tie.Else1 → tie.After-judge-schema
+schema-judged c = c .before .before .before .before
 
-returns : tie.Need-returns
+abbrev from-graph : tie.After-judge-graph → tie.Else1
+from-graph c = c .before .before .before .before .before
+
+abbrev graph-judged : tie.Else2 → tie.After-judge-graph
+graph-judged c = c .before .before .before .before .before .before .before .before
+
+-- the areas lent are long enough
+abbrev work : tie.Start → Lent
+work o = lent (o .args .a .now) (o .args .g .now) (o .args .p .now) (o .args .v .now) (o .args .q .now)
+
+long : (o : tie.Start) → tooShortOf (work o) ≡ false
 unfolding lent
-returns c =
-    let e1 = c in
-    let o = e1 .before .before .before .before .before .before .before .before .before .before .before .before .before .before in
-    let w = lent (o .args .a .now) (o .args .g .now) (o .args .p .now) (o .args .v .now) (o .args .q .now) in
-    let long = enough w (o .pre .0) (o .pre .1 .0) (o .pre .1 .1 .0) (omega (arith, o .pre .1 .1 .1 .0)) (o .pre .1 .1 .1 .1) in
-    let s = o .args .schema .now in
-    let g = o .args .graph .now in
-    let q = o .args .query .now in
-    let j = e1 .before .before .before .before .judge-schema .ensures in
-    schema-refused s g q w long _ _ _ j _ (e1 .if1 .taken)
+long o =
+    let h = o .pre in
+    let values = h .1 .1 .1 .0 in
+    enough (work o)
+    (record { schema = h .0; nodes = h .1 .0; properties = h .1 .1 .0; values = omega (arith, values); query = h .1 .1 .1 .1 })
 
-judge-graph-requires : tie.Need-judge-graph-requires
+-- the schema's area can be read
+schema-ready : (c : tie.Else1) → SchemaHeld (schema-judged c .judge-schema .last .1 .0)
+schema-ready c =
+    let judged = schema-judged c in
+    let o = start judged in
+    held-schema (o .args .schema .now) (o .args .graph .now) (o .args .query .now) (work o) (long o)
+    (judged .judge-schema .ensures) (o .pre .0) (c .if1 .left)
+
+returns-schema : tie.Need-returns
+returns-schema c =
+    let judged = c .before .before .before .before in
+    let o = start judged in
+    schema-refused (o .args .schema .now) (o .args .graph .now) (o .args .query .now) (work o) (long o)
+    (judged .judge-schema .ensures) (c .if1 .taken)
+
+asks-graph : tie.Need-judge-graph-requires
+asks-graph c κs =
+    let passed = c .before .before .before .before in
+    let h = start (schema-judged passed) .pre in
+    let values = h .1 .1 .1 .0 in
+    (schema-ready passed, (h .1 .0, (h .1 .1 .0, (omega (arith, values), omega (arith, values)))))
+
+returns-graph : tie.Need-returns-2
+returns-graph c =
+    let graph = c .before .before .before .before .before .before .before .before in
+    let passed = from-graph graph in
+    let judged = schema-judged passed in
+    let o = start judged in
+    graph-refused (o .args .schema .now) (o .args .graph .now) (o .args .query .now) (work o) (long o)
+    (judged .judge-schema .ensures) (o .pre .0) (passed .if1 .left) (graph .judge-graph .ensures) (c .if2 .taken)
+
+asks-query : tie.Need-judge-query-requires
+asks-query c κs =
+    let passed = from-graph (graph-judged (c .before .before)) in
+    (schema-ready passed, start (schema-judged passed) .pre .1 .1 .1 .1)
+
+returns-query : tie.Need-returns-3
 unfolding lent
-judge-graph-requires c κs =
-    let e1 = c .before .before .before .before in
-    let o = e1 .before .before .before .before .before .before .before .before .before .before .before .before .before .before in
-    let w = lent (o .args .a .now) (o .args .g .now) (o .args .p .now) (o .args .v .now) (o .args .q .now) in
-    let long = enough w (o .pre .0) (o .pre .1 .0) (o .pre .1 .1 .0) (omega (arith, o .pre .1 .1 .1 .0)) (o .pre .1 .1 .1 .1) in
-    let s = o .args .schema .now in
-    let g = o .args .graph .now in
-    let q = o .args .query .now in
-    let j = e1 .before .before .before .before .judge-schema .ensures in
-    (held-schema s g q w long _ _ _ j (o .pre .0) (e1 .if1 .left), (o .pre .1 .0, (o .pre .1 .1 .0, (omega (arith, o .pre .1 .1 .1 .0), omega (arith, o .pre .1 .1 .1 .0)))))
-
-same-length-2 : tie.Need-same-length-2
-same-length-2 c = search needs
-
-same-length-3 : tie.Need-same-length-3
-same-length-3 c = search needs
-
-same-length-4 : tie.Need-same-length-4
-same-length-4 c = search needs
-
-same-length-5 : tie.Need-same-length-5
-same-length-5 c = search needs
-
-returns-2 : tie.Need-returns-2
-unfolding lent
-returns-2 c =
-    let e2 = c in
-    let e1 = e2 .before .before .before .before .before .before .before .before .before .before .before .before .before in
-    let o = e1 .before .before .before .before .before .before .before .before .before .before .before .before .before .before in
-    let w = lent (o .args .a .now) (o .args .g .now) (o .args .p .now) (o .args .v .now) (o .args .q .now) in
-    let long = enough w (o .pre .0) (o .pre .1 .0) (o .pre .1 .1 .0) (omega (arith, o .pre .1 .1 .1 .0)) (o .pre .1 .1 .1 .1) in
-    let s = o .args .schema .now in
-    let g = o .args .graph .now in
-    let q = o .args .query .now in
-    let j = e1 .before .before .before .before .judge-schema .ensures in
-    let i = e2 .before .before .before .before .before .before .before .before .judge-graph .ensures in
-    graph-refused s g q w long _ _ _ j (o .pre .0) (e1 .if1 .left) _ _ _ _ _ _ _ i _ (e2 .if2 .taken)
-
-judge-query-requires : tie.Need-judge-query-requires
-unfolding lent
-judge-query-requires c κs =
-    let e2 = c .before .before in
-    let e1 = e2 .before .before .before .before .before .before .before .before .before .before .before .before .before in
-    let o = e1 .before .before .before .before .before .before .before .before .before .before .before .before .before .before in
-    let w = lent (o .args .a .now) (o .args .g .now) (o .args .p .now) (o .args .v .now) (o .args .q .now) in
-    let long = enough w (o .pre .0) (o .pre .1 .0) (o .pre .1 .1 .0) (omega (arith, o .pre .1 .1 .1 .0)) (o .pre .1 .1 .1 .1) in
-    let s = o .args .schema .now in
-    let g = o .args .graph .now in
-    let q = o .args .query .now in
-    let j = e1 .before .before .before .before .judge-schema .ensures in
-    (held-schema s g q w long _ _ _ j (o .pre .0) (e1 .if1 .left), o .pre .1 .1 .1 .1)
-
-same-length-6 : tie.Need-same-length-6
-same-length-6 c = search needs
-
-same-length-7 : tie.Need-same-length-7
-same-length-7 c = search needs
-
-same-length-8 : tie.Need-same-length-8
-same-length-8 c = search needs
-
-same-length-9 : tie.Need-same-length-9
-same-length-9 c = search needs
-
-same-length-10 : tie.Need-same-length-10
-same-length-10 c = search needs
-
-returns-3 : tie.Need-returns-3
-unfolding lent
-returns-3 c =
-    let d = c .before .before in
-    let e2 = d .before .before .before in
-    let e1 = e2 .before .before .before .before .before .before .before .before .before .before .before .before .before in
-    let o = e1 .before .before .before .before .before .before .before .before .before .before .before .before .before .before in
-    let w = lent (o .args .a .now) (o .args .g .now) (o .args .p .now) (o .args .v .now) (o .args .q .now) in
-    let long = enough w (o .pre .0) (o .pre .1 .0) (o .pre .1 .1 .0) (omega (arith, o .pre .1 .1 .1 .0)) (o .pre .1 .1 .1 .1) in
-    let s = o .args .schema .now in
-    let g = o .args .graph .now in
-    let q = o .args .query .now in
-    let j = e1 .before .before .before .before .judge-schema .ensures in
-    let i = e2 .before .before .before .before .before .before .before .before .judge-graph .ensures in
-    all-accepted s g q w long _ _ _ j (o .pre .0) (e1 .if1 .left) _ _ _ _ _ _ _ i (e2 .if2 .left) _ 0 _ _ (d .judge-query .ensures) refl refl refl (o .pre .1 .1 .1 .0) refl
+returns-query c =
+    let query = c .before .before in
+    let passed-graph = query .before .before .before in
+    let graph = graph-judged passed-graph in
+    let passed = from-graph graph in
+    let judged = schema-judged passed in
+    let o = start judged in
+    all-accepted (o .args .schema .now) (o .args .graph .now) (o .args .query .now) (work o) (long o)
+    (judged .judge-schema .ensures) (o .pre .0) (passed .if1 .left) (graph .judge-graph .ensures) (passed-graph .if2 .left)
+    (query .judge-query .ensures) refl refl refl (o .pre .1 .1 .1 .0) refl
 
 pub judge-texts-spec : {M : Type 1} → statement M
 judge-texts-spec =
     tie.close
     (tie.spec
-    judge-schema-requires
-    same-length
-    returns
-    judge-graph-requires
-    same-length-2
-    same-length-3
-    same-length-4
-    same-length-5
-    returns-2
-    judge-query-requires
-    same-length-6
-    same-length-7
-    same-length-8
-    same-length-9
-    same-length-10
-    returns-3)
+    (λ c κs. search needs)
+    (λ c. search needs)
+    returns-schema
+    asks-graph
+    (λ c. search needs)
+    (λ c. search needs)
+    (λ c. search needs)
+    (λ c. search needs)
+    returns-graph
+    asks-query
+    (λ c. search needs)
+    (λ c. search needs)
+    (λ c. search needs)
+    (λ c. search needs)
+    (λ c. search needs)
+    returns-query)

@@ -37,8 +37,8 @@ declared-field-requires c κs = search needs
 returns-5 : tie.Need-returns-5
 returns-5 c = search (laws33, needs)
 
-args-declared-requires : tie.Need-args-declared-requires
-args-declared-requires c κs = search needs
+args-fault-requires : tie.Need-args-fault-requires
+args-fault-requires c κs = search needs
 
 returns-6 : tie.Need-returns-6
 returns-6 c = search (laws33, needs)
@@ -58,5 +58,5 @@ check-33-spec =
     entry-cell-requires-4
     declared-field-requires
     returns-5
-    args-declared-requires
+    args-fault-requires
     returns-6)

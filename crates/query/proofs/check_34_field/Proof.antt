@@ -20,8 +20,8 @@ has-field-requires c κs = search needs
 returns-2 : tie.Need-returns-2
 returns-2 c = search (laws34, needs)
 
-args-taken-requires : tie.Need-args-taken-requires
-args-taken-requires c κs = search needs
+args-fault-requires : tie.Need-args-fault-requires
+args-fault-requires c κs = search needs
 
 enum-known-args : tie.Need-enum-known-args
 enum-known-args c = search needs
@@ -62,7 +62,7 @@ check-34-field-spec =
     returns
     has-field-requires
     returns-2
-    args-taken-requires
+    args-fault-requires
     enum-known-args
     returns-3
     enum-told

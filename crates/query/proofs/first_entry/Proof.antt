@@ -15,6 +15,14 @@ Inv-loop check a q top contexts₀ n deepest₀ k₀ contexts deepest k = Reache
 abbrev μ-loop : tie.MeasureT-loop
 μ-loop check a q top contexts₀ n deepest₀ k₀ contexts deepest k = cell q 0 - k
 
+-- the start of the function from an entry, and how deep that entry can be
+abbrev start : tie.After-entry-cell Inv-loop μ-loop → tie.Start Inv-loop μ-loop
+start c = c .before .before .before .before .before .before .before
+
+at-most-15 : (c : tie.After-entry-cell Inv-loop μ-loop) → c .entry-cell .result ≤ 15
+unfolding cell
+at-most-15 c = shallow _ _ _ (start c .pre .1) (c .before .loop-test .taken) (c .entry-cell .ensures)
+
 query-type-requires : tie.Need-query-type-requires Inv-loop μ-loop
 query-type-requires c κs = search needs
 
@@ -41,10 +49,7 @@ mul-t18 c = search needs
 
 array-read-t21 : tie.Need-array-read-t21 Inv-loop μ-loop
 unfolding cell
-array-read-t21 c =
-    let t = c .before in
-    let s = t .before .before .before .before .before .before in
-    let b = shallow _ _ _ (s .pre .1) (t .loop-test .taken) (c .entry-cell .ensures) in omega arith
+array-read-t21 c = let bound = at-most-15 c in omega arith
 
 entry-fault-requires : tie.Need-entry-fault-requires Inv-loop μ-loop
 unfolding cell
@@ -80,17 +85,11 @@ hands-down-requires c κs = search needs
 
 put-below-requires : tie.Need-put-below-requires Inv-loop μ-loop
 unfolding cell
-put-below-requires c κs =
-    let e = c .before .before .before .before .before in
-    let s = e .before .before .before .before .before .before .before in
-    let b = shallow _ _ _ (s .pre .1) (e .before .loop-test .taken) (e .entry-cell .ensures) in omega arith
+put-below-requires c κs = let bound = at-most-15 (c .before .before .before .before .before) in omega arith
 
 add-deepest : tie.Need-add-deepest Inv-loop μ-loop
 unfolding cell
-add-deepest c =
-    let e = c .before .before .before .before .before .before .before in
-    let s = e .before .before .before .before .before .before .before in
-    let b = shallow _ _ _ (s .pre .1) (e .before .loop-test .taken) (e .entry-cell .ensures) in omega arith
+add-deepest c = let bound = at-most-15 (c .before .before .before .before .before .before .before) in omega arith
 
 add-k : tie.Need-add-k Inv-loop μ-loop
 unfolding cell
@@ -103,12 +102,14 @@ loop-less c = search needs
 loop-again : tie.Need-loop-again Inv-loop μ-loop
 unfolding cell
 loop-again c =
-    let h = c .before .before in
-    let f = h .before .before .before .before in
-    let e = f .before in
-    let l = e .before .before in
-    let s = l .before .before .before .before .before in
-    (reached-on _ _ _ _ _ _ (l .loop .inv .0) (s .pre .1) (e .before .loop-test .taken) _ (e .entry-cell .ensures) _ (f .entry-fault .ensures) _ _ (h .before .before .enum-told .given .1) (h .hands-down .ensures) (c .before .put-below .ensures), omega arith)
+    let handed = c .before .before in
+    let judged = handed .before .before .before .before in
+    let entry = judged .before in
+    let loop = entry .before .before in
+    let on = reached-on _ _ _ _ _ _ (loop .loop .inv .0) (start entry .pre .1) (entry .before .loop-test .taken)
+    _ (entry .entry-cell .ensures) _ (judged .entry-fault .ensures)
+    _ _ (handed .before .before .enum-told .given .1) (handed .hands-down .ensures) (c .before .put-below .ensures) in
+    (on, omega arith)
 
 returns-2 : tie.Need-returns-2 Inv-loop μ-loop
 unfolding cell

@@ -1,11 +1,13 @@
--- `query::has_child` meets its contract. The loop's invariant: the entries before j are deeper and no child. The measure is the entries left. Assumes nothing.
+-- `query::has_child` meets its contract. The loop's invariant: the entries before j are deeper and no child. The measure is the
+-- entries left. Assumes nothing.
 use Prim.Native.Nat.{_≤_, _-_}
 use mathlib.Core.Path.{_≡_}
+use native.Mathlib.Omega.{arith}
 use borrow.Author.Needs.{needs}
 use Rattle.rules.specs.Query.{hasChild}
 use Rattle.tables.specs.Read.{cell}
 use Rattle.query.specs.Entries.{entryAt, behind}
-use Rattle.query.proofs.Children.{childFrom, child-laws}
+use Rattle.query.proofs.Children.{childFrom, child-found, child-laws}
 use Rattle.query.proofs.has_child.Statement.{statement}
 use Rattle.query.proofs.has_child.Tie as tie
 
@@ -46,7 +48,11 @@ add-if2 c = search (child-laws, needs)
 
 returns-2 : tie.Need-returns-2 Inv-loop μ-loop
 unfolding cell
-returns-2 c = search (child-laws, needs)
+returns-2 c =
+    let turn = c .before .before .before in
+    let start = turn .before .before .before in
+    child-found _ _ _ _ _ _ (turn .before .loop .inv .0) (turn .loop-test .taken) (start .entry-cell .ensures)
+    (c .before .before .entry-cell2 .ensures) (c .before .if1 .left) (omega arith)
 
 add-j-2 : tie.Need-add-j-2 Inv-loop μ-loop
 unfolding cell

@@ -1,4 +1,5 @@
--- `query::put_below` meets its contract. The loop's invariant: what is left to put is what is to be put from i on. The measure is the places left. Assumes nothing.
+-- `query::put_below` meets its contract. The loop's invariant: what is left to put is what is to be put from i on. The measure is
+-- the places left. Assumes nothing.
 use Prim.Native.Nat.{_+_, _-_}
 use mathlib.Core.Path.{_≡_}
 use borrow.Author.Needs.{needs}

@@ -1,130 +1,58 @@
--- `query_text::judge_query` meets its contract: each refusal is the first check that is offended, by the laws of `QueryJudging`, and
--- behind 31 the entries laid out say what the rows say. Assumes nothing.
-use mathlib.Core.Path.{refl, ap, _∙_}
+-- `query_text::judge_query` meets its contract: a text that passes 30 and 31 fits the area, and its entries say what its rows say.
+-- Assumes nothing.
+use mathlib.Core.Path.{refl}
 use lib.ListN.{length}
 use borrow.Author.Needs.{needs}
-use Rattle.rules.specs.Text.{rows}
 use Rattle.tables.specs.Read.{schemaAt}
-use Rattle.search.specs.Search.{areas}
-use Rattle.checks.specs.Verdict.{refusedBy}
-use Rattle.query_text.proofs.QueryJudging.{searched-31, ready-31, at-30-long, at-30, query-plain, at-31, fits-31, held-31, accepted, refusal}
+use Rattle.checks.proofs.Opening.{Opened, opened}
+use Rattle.query_text.proofs.QueryJudging.{opens-30, fits-31, laid-held, refused, accepted}
 use Rattle.query_text.proofs.judge_query.Statement.{statement}
 use Rattle.query_text.proofs.judge_query.Tie as tie
 
-nowhere-requires : tie.Need-nowhere-requires
-nowhere-requires c κs = search needs
+abbrev start : tie.After-judge-form → tie.Start
+start c = c .before .before .before .before
 
-refuse-requires : tie.Need-refuse-requires
-refuse-requires c κs = search needs
+open-text : (c : tie.Else1) → Opened 30 (start (c .before .before) .args .s .now)
+open-text c = opened 30 opens-30 _ (c .before .before .judge-form .ensures) (c .if1 .left)
 
-returns : tie.Need-returns
-returns c =
-    let from = c .before .before .before .before .before .before in
-    let s = schemaAt (from .args .a .now) in
-    let text = from .args .s .now in
-    refusal s text _ _ 29 _ refl (c .refuse .ensures ∙ ap (refusedBy 30) (c .before .nowhere .ensures))
-    (at-30-long s text (c .before .before .if1 .taken))
+asks-form : tie.Need-judge-form-requires
+asks-form c κs = opens-30
 
-first-broken-requires : tie.Need-first-broken-requires
-first-broken-requires c κs = search needs
+returns-early : tie.Need-returns
+returns-early c =
+    let form = c .before .before in
+    let o = start form in
+    refused (schemaAt (o .args .a .now)) (o .args .s .now) _ _ (form .judge-form .ensures) refl (c .if1 .taken)
 
-refuse-requires-2 : tie.Need-refuse-requires-2
-refuse-requires-2 c κs = search needs
+asks-to-lay : tie.Need-lay-query-requires
+asks-to-lay c κs =
+    let o = start (c .before .before .before) in
+    let text = open-text (c .before) in
+    (text .short, (text .plain, (fits-31 (o .args .s .now) text, o .pre .1)))
 
-returns-2 : tie.Need-returns-2
-returns-2 c =
-    let t2 = c .before in
-    let e1 = t2 .before .before .before in
-    let from = e1 .before .before .before .before in
-    let s = schemaAt (from .args .a .now) in
-    let text = from .args .s .now in
-    refusal s text _ _ 29 _ refl (c .refuse2 .ensures)
-    (at-30 s text (e1 .if1 .left) (t2 .before .before .first-broken .ensures) (t2 .if2 .taken))
-
-first-offence-requires : tie.Need-first-offence-requires
-first-offence-requires c κs =
-    let e2 = c in
-    let e1 = e2 .before .before .before in
-    let from = e1 .before .before .before .before in
-    let s = schemaAt (from .args .a .now) in
-    let text = from .args .s .now in
-    let a = from .args .a .now in
-    let plain = query-plain s text (e1 .if1 .left) (e2 .before .before .first-broken .ensures) (e2 .if2 .left) in
-    (searched-31, (e1 .if1 .left, (plain, ready-31 (rows text) (areas a a a a))))
-
-refuse-requires-3 : tie.Need-refuse-requires-3
-refuse-requires-3 c κs = search needs
-
-returns-3 : tie.Need-returns-3
-returns-3 c =
-    let t3 = c .before in
-    let e2 = t3 .before .before .before in
-    let e1 = e2 .before .before .before in
-    let from = e1 .before .before .before .before in
-    let s = schemaAt (from .args .a .now) in
-    let text = from .args .s .now in
-    refusal s text _ _ 30 _ refl (c .refuse3 .ensures)
-    (at-31 s text (e1 .if1 .left) (e2 .before .before .first-broken .ensures) (e2 .if2 .left)
-    (from .args .a .now) (t3 .before .before .first-offence .ensures) (t3 .if3 .taken))
-
-lay-query-requires : tie.Need-lay-query-requires
-lay-query-requires c κs =
-    let e3 = c .before in
-    let e2 = e3 .before .before .before in
-    let e1 = e2 .before .before .before in
-    let from = e1 .before .before .before .before in
-    let s = schemaAt (from .args .a .now) in
-    let text = from .args .s .now in
-    let plain = query-plain s text (e1 .if1 .left) (e2 .before .before .first-broken .ensures) (e2 .if2 .left) in
-    let fits = fits-31 s text (e1 .if1 .left) (e2 .before .before .first-broken .ensures) (e2 .if2 .left)
-    (from .args .a .now) (e3 .before .before .first-offence .ensures) (e3 .if3 .left) in
-    (e1 .if1 .left, (plain, (fits, from .pre .1)))
-
-judge-entries-requires : tie.Need-judge-entries-requires
-judge-entries-requires c κs =
+asks-entries : tie.Need-judge-entries-requires
+asks-entries c κs =
     let laid = c .before .before .before in
-    let e3 = laid .before .before in
-    let e2 = e3 .before .before .before in
-    let e1 = e2 .before .before .before in
-    let from = e1 .before .before .before .before in
-    let s = schemaAt (from .args .a .now) in
-    let text = from .args .s .now in (
-      from .pre .0,
-      held-31 s text (e1 .if1 .left) (e2 .before .before .first-broken .ensures) (e2 .if2 .left)
-          (from .args .a .now) (e3 .before .before .first-offence .ensures) (e3 .if3 .left) (length (from .args .q .now)) (from .pre .1)
-          (laid .lay-query .ensures),
-    )
+    let passed = laid .before .before in
+    let o = start (passed .before .before) in
+    (o .pre .0, laid-held (o .args .s .now) (open-text passed) (length (o .args .q .now)) (o .pre .1) (laid .lay-query .ensures))
 
-same-length : tie.Need-same-length
-same-length c = search needs
-
-returns-4 : tie.Need-returns-4
-returns-4 c =
+returns-entries : tie.Need-returns-2
+returns-entries c =
     let laid = c .before .before .before .before in
-    let e3 = laid .before .before in
-    let e2 = e3 .before .before .before in
-    let e1 = e2 .before .before .before in
-    let from = e1 .before .before .before .before in
-    let s = schemaAt (from .args .a .now) in
-    let text = from .args .s .now in
-    accepted s text (e1 .if1 .left) (e2 .before .before .first-broken .ensures) (e2 .if2 .left)
-    (from .args .a .now) (e3 .before .before .first-offence .ensures) (e3 .if3 .left) (length (from .args .q .now)) (from .pre .1)
+    let passed = laid .before .before in
+    let form = passed .before .before in
+    let o = start form in
+    accepted (schemaAt (o .args .a .now)) (o .args .s .now) _ _ (form .judge-form .ensures) (passed .if1 .left) (o .pre .1)
     (laid .lay-query .ensures) (c .judge-entries .ensures)
 
 pub judge-query-spec : {M : Type 1} → statement M
 judge-query-spec =
     tie.close
     (tie.spec
-    nowhere-requires
-    refuse-requires
-    returns
-    first-broken-requires
-    refuse-requires-2
-    returns-2
-    first-offence-requires
-    refuse-requires-3
-    returns-3
-    lay-query-requires
-    judge-entries-requires
-    same-length
-    returns-4)
+    asks-form
+    returns-early
+    asks-to-lay
+    asks-entries
+    (λ c. search needs)
+    returns-entries)

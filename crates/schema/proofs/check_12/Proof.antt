@@ -1,14 +1,14 @@
 -- `schema::check_12` meets its contract. One law for each answer of each letter. Assumes nothing.
 use borrow.Author.Needs.{needs}
-use Rattle.schema.proofs.Checks.{row-laws}
+use Rattle.schema.proofs.Checks.{scalar-laws, row-laws}
 use Rattle.schema.proofs.check_12.Statement.{statement}
 use Rattle.schema.proofs.check_12.Tie as tie
 
 returns : tie.Need-returns
-returns c = search (row-laws, needs)
+returns c = search (scalar-laws, needs)
 
 returns-2 : tie.Need-returns-2
-returns-2 c = search (row-laws, needs)
+returns-2 c = search (scalar-laws, needs)
 
 is-declared-requires : tie.Need-is-declared-requires
 is-declared-requires c κs = search needs

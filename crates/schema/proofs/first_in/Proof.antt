@@ -15,20 +15,8 @@ abbrev μ-loop : tie.MeasureT-loop
 loop-holds : tie.Need-loop-holds Inv-loop μ-loop
 loop-holds c = search (first-laws, needs)
 
-mul-if1 : tie.Need-mul-if1 Inv-loop μ-loop
-mul-if1 c = search (first-laws, needs)
-
-add-if1 : tie.Need-add-if1 Inv-loop μ-loop
-add-if1 c = search (first-laws, needs)
-
-add-if1-2 : tie.Need-add-if1-2 Inv-loop μ-loop
-add-if1-2 c = search (first-laws, needs)
-
-mul-if1-2 : tie.Need-mul-if1-2 Inv-loop μ-loop
-mul-if1-2 c = search (first-laws, needs)
-
-shared-slice-read-if1 : tie.Need-shared-slice-read-if1 Inv-loop μ-loop
-shared-slice-read-if1 c = search (first-laws, needs)
+row-cell-requires : tie.Need-row-cell-requires Inv-loop μ-loop
+row-cell-requires c κs = search (first-laws, needs)
 
 returns : tie.Need-returns Inv-loop μ-loop
 returns c = search (first-laws, needs)
@@ -52,11 +40,7 @@ first-in-spec =
     Inv-loop
     μ-loop
     loop-holds
-    mul-if1
-    add-if1
-    add-if1-2
-    mul-if1-2
-    shared-slice-read-if1
+    row-cell-requires
     returns
     add-j
     loop-less

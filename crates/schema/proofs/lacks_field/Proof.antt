@@ -1,11 +1,12 @@
--- `schema::lacks_field` meets its contract. The loop's invariant: no row before j gives t a field that o lacks. The measure is the rows left. Assumes nothing.
+-- `schema::lacks_field` meets its contract. The loop's invariant: no row before j gives t a field that o lacks. The measure is the rows left.
+-- Assumes nothing.
 use Prim.Native.Nat.{_≤_, _-_}
 use mathlib.Core.Logic.{⊎-elim}
 use native.Mathlib.Omega.{arith}
 use borrow.Author.Tests.{not-false}
 use borrow.Author.Needs.{needs}
 use Rattle.tables.specs.Read.{cell}
-use Rattle.schema.proofs.Searching.{Left, lacksAt, lacks-not, lacks-laws}
+use Rattle.schema.proofs.Searching.{Left, lacksAt, lacks-other, lacks-not, lacks-laws}
 use Rattle.schema.proofs.lacks_field.Statement.{statement}
 use Rattle.schema.proofs.lacks_field.Tie as tie
 
@@ -25,35 +26,11 @@ cast-end c = search (lacks-laws, needs)
 loop-holds : tie.Need-loop-holds Inv-loop μ-loop
 loop-holds c = search (lacks-laws, needs)
 
-mul-if1 : tie.Need-mul-if1 Inv-loop μ-loop
-mul-if1 c = search (lacks-laws, needs)
+row-cell-requires : tie.Need-row-cell-requires Inv-loop μ-loop
+row-cell-requires c κs = search (lacks-laws, needs)
 
-add-if1 : tie.Need-add-if1 Inv-loop μ-loop
-add-if1 c = search (lacks-laws, needs)
-
-add-if1-2 : tie.Need-add-if1-2 Inv-loop μ-loop
-add-if1-2 c = search (lacks-laws, needs)
-
-mul-if1-2 : tie.Need-mul-if1-2 Inv-loop μ-loop
-mul-if1-2 c = search (lacks-laws, needs)
-
-shared-slice-read-if1 : tie.Need-shared-slice-read-if1 Inv-loop μ-loop
-shared-slice-read-if1 c = search (lacks-laws, needs)
-
-mul-t16 : tie.Need-mul-t16 Inv-loop μ-loop
-mul-t16 c = search (lacks-laws, needs)
-
-add-t17 : tie.Need-add-t17 Inv-loop μ-loop
-add-t17 c = search (lacks-laws, needs)
-
-add-t18 : tie.Need-add-t18 Inv-loop μ-loop
-add-t18 c = search (lacks-laws, needs)
-
-mul-t19 : tie.Need-mul-t19 Inv-loop μ-loop
-mul-t19 c = search (lacks-laws, needs)
-
-shared-slice-read-t21 : tie.Need-shared-slice-read-t21 Inv-loop μ-loop
-shared-slice-read-t21 c = search (lacks-laws, needs)
+row-cell-requires-2 : tie.Need-row-cell-requires-2 Inv-loop μ-loop
+row-cell-requires-2 c κs = search (lacks-laws, needs)
 
 has-field-requires : tie.Need-has-field-requires Inv-loop μ-loop
 has-field-requires c κs = search (lacks-laws, needs)
@@ -72,8 +49,16 @@ loop-less c = search (lacks-laws, needs)
 loop-again : tie.Need-loop-again Inv-loop μ-loop
 unfolding cell
 loop-again c =
-    let l = c .before .before .before in
-    (⊎-elim (λ w. lacks-not _ _ _ _ _ (l .before .loop .inv .0) (l .loop-test .taken) (w .0 .taken) (w .2 .ensures) (not-false _ (w .3 .left))) (λ w. search lacks-laws) (c .if1 .came), omega arith)
+    let r = c .before .before in
+    let k = r .before .before .loop .inv .0 in
+    let h = r .before .loop-test .taken in
+    let f = r .row-cell .ensures in (
+      ⊎-elim
+          (λ w. lacks-not _ _ _ _ k _ h f _ _ (w .0 .taken) (w .1 .ensures) (w .2 .ensures) (not-false _ (w .3 .left)))
+          (λ w. lacks-other _ _ _ _ k _ h f (w .left))
+          (c .if1 .came),
+      omega arith,
+    )
 
 returns-2 : tie.Need-returns-2 Inv-loop μ-loop
 unfolding cell
@@ -88,16 +73,8 @@ lacks-field-spec =
     shared-slice-read-end
     cast-end
     loop-holds
-    mul-if1
-    add-if1
-    add-if1-2
-    mul-if1-2
-    shared-slice-read-if1
-    mul-t16
-    add-t17
-    add-t18
-    mul-t19
-    shared-slice-read-t21
+    row-cell-requires
+    row-cell-requires-2
     has-field-requires
     returns
     add-j

@@ -11,21 +11,9 @@ mul-if1 c = search needs
 shared-slice-read-if1 : tie.Need-shared-slice-read-if1
 shared-slice-read-if1 c = search needs
 
-mul-result : tie.Need-mul-result
-mul-result c = search needs
-
-add-result : tie.Need-add-result
-add-result c = search needs
-
-add-result-2 : tie.Need-add-result-2
-add-result-2 c = search needs
-
-mul-result-2 : tie.Need-mul-result-2
-mul-result-2 c = search needs
-
-shared-slice-read-result : tie.Need-shared-slice-read-result
+row-cell-requires : tie.Need-row-cell-requires
 unfolding cell
-shared-slice-read-result c = search (cell-laws, needs)
+row-cell-requires c κs = search needs
 
 returns : tie.Need-returns
 returns c = search (cell-laws, needs)
@@ -35,14 +23,4 @@ returns-2 c = search (cell-laws, needs)
 
 pub narrow-at-spec : {M : Type 1} → statement M
 narrow-at-spec =
-    tie.close
-    (tie.spec
-    mul-if1
-    shared-slice-read-if1
-    mul-result
-    add-result
-    add-result-2
-    mul-result-2
-    shared-slice-read-result
-    returns
-    returns-2)
+    tie.close (tie.spec mul-if1 shared-slice-read-if1 row-cell-requires returns returns-2)

@@ -4,35 +4,11 @@ use Rattle.schema.proofs.Letters.{cell-laws}
 use Rattle.schema.proofs.pair_at.Statement.{statement}
 use Rattle.schema.proofs.pair_at.Tie as tie
 
-mul-if1 : tie.Need-mul-if1
-mul-if1 c = search needs
+row-cell-requires : tie.Need-row-cell-requires
+row-cell-requires c κs = search needs
 
-add-if1 : tie.Need-add-if1
-add-if1 c = search needs
-
-add-if1-2 : tie.Need-add-if1-2
-add-if1-2 c = search needs
-
-mul-if1-2 : tie.Need-mul-if1-2
-mul-if1-2 c = search needs
-
-shared-slice-read-if1 : tie.Need-shared-slice-read-if1
-shared-slice-read-if1 c = search needs
-
-mul-result : tie.Need-mul-result
-mul-result c = search needs
-
-add-result : tie.Need-add-result
-add-result c = search needs
-
-add-result-2 : tie.Need-add-result-2
-add-result-2 c = search needs
-
-mul-result-2 : tie.Need-mul-result-2
-mul-result-2 c = search needs
-
-shared-slice-read-result : tie.Need-shared-slice-read-result
-shared-slice-read-result c = search needs
+row-cell-requires-2 : tie.Need-row-cell-requires-2
+row-cell-requires-2 c κs = search needs
 
 returns : tie.Need-returns
 returns c = search (cell-laws, needs)
@@ -41,18 +17,4 @@ returns-2 : tie.Need-returns-2
 returns-2 c = search (cell-laws, needs)
 
 pub pair-at-spec : {M : Type 1} → statement M
-pair-at-spec =
-    tie.close
-    (tie.spec
-    mul-if1
-    add-if1
-    add-if1-2
-    mul-if1-2
-    shared-slice-read-if1
-    mul-result
-    add-result
-    add-result-2
-    mul-result-2
-    shared-slice-read-result
-    returns
-    returns-2)
+pair-at-spec = tie.close (tie.spec row-cell-requires row-cell-requires-2 returns returns-2)

@@ -1,19 +1,15 @@
+-- `search::check_31` meets its contract. One law for each answer. Assumes nothing.
 use Rattle.search.proofs.Plainly.{deep, many, few}
 use borrow.Author.Needs.{needs}
 use Rattle.search.proofs.check_31.Statement.{statement}
 use Rattle.search.proofs.check_31.Tie as tie
-use Rattle.search.proofs.check_31.Reads as reads
-use Rattle.search.proofs.check_31.Lts as lts
 
--- src/lib.rt:155:9
 returns : tie.Need-returns
 returns c = search (deep, needs)
 
--- src/lib.rt:158:9
 returns-2 : tie.Need-returns-2
 returns-2 c = search (many, needs)
 
--- src/lib.rt:151:1
 returns-3 : tie.Need-returns-3
 returns-3 c = search (few, needs)
 

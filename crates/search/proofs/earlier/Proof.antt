@@ -6,6 +6,9 @@ use Rattle.search.proofs.Dispatch.{limit-laws, schema-asked, nodes-aske
 use Rattle.search.proofs.earlier.Statement.{statement}
 use Rattle.search.proofs.earlier.Tie as tie
 
+abbrev start : tie.Then5 → tie.Start
+start c = c .before .before .before .before .before .before .before
+
 returns : tie.Need-returns
 returns c = search (limit-laws, needs)
 
@@ -22,14 +25,15 @@ array-read-type-of : tie.Need-array-read-type-of
 array-read-type-of c = search needs
 
 type-of-requires : tie.Need-type-of-requires
-type-of-requires c κs = nodes-asked _ _ _ _ _ _ _ (c .before .before .before .before .before .before .before .before .before .pre .1) (c .before .before .if5 .taken)
+type-of-requires c κs = let here = c .before .before in nodes-asked _ _ _ _ _ _ _ (start here .pre .1) (here .if5 .taken)
 
 array-read-t19 : tie.Need-array-read-t19
 array-read-t19 c = search needs
 
 list-mark-requires : tie.Need-list-mark-requires
 unfolding plainCheck
-list-mark-requires c κs = schema-asked _ _ _ _ _ _ _ (c .before .before .before .before .before .before .before .before .before .before .pre .1) 25 refl (c .before .before .before .if5 .taken)
+list-mark-requires c κs =
+    let here = c .before .before .before in schema-asked _ _ _ _ _ _ _ (start here .pre .1) 25 refl (here .if5 .taken)
 
 returns-5 : tie.Need-returns-5
 returns-5 c = search (limit-laws, needs)

@@ -1,4 +1,5 @@
--- `search::line_alone` meets its contract. One law for each check; what a check reads, the line being testable, stands in the areas. Assumes nothing.
+-- `search::line_alone` meets its contract. One law for each check; what a check reads, the line being testable, stands in the areas.
+-- Assumes nothing.
 use borrow.Author.Needs.{needs}
 use native.Mathlib.Omega.{arith}
 use mathlib.Core.Path.{refl}
@@ -6,6 +7,9 @@ use Rattle.search.specs.Search.{plainCheck}
 use Rattle.search.proofs.Dispatch.{alone-laws, schema-asked, graph-asked}
 use Rattle.search.proofs.line_alone.Statement.{statement}
 use Rattle.search.proofs.line_alone.Tie as tie
+
+abbrev start : tie.Else1 → tie.Start
+start c = c .before .before .before .before .before .before
 
 check-11-requires : tie.Need-check-11-requires
 check-11-requires c κs = search needs
@@ -21,7 +25,7 @@ array-read-check-12-2 c = search needs
 
 check-12-requires : tie.Need-check-12-requires
 unfolding plainCheck
-check-12-requires c κs = schema-asked _ _ _ _ _ _ _ (c .before .before .before .before .before .before .before .pre .1) 12 refl (c .if2 .taken)
+check-12-requires c κs = schema-asked _ _ _ _ _ _ _ (start (c .before) .pre .1) 12 refl (c .if2 .taken)
 
 returns-2 : tie.Need-returns-2
 returns-2 c = search (alone-laws, needs)
@@ -34,14 +38,14 @@ array-read-check-14-2 c = search needs
 
 check-14-requires : tie.Need-check-14-requires
 unfolding plainCheck
-check-14-requires c κs = schema-asked _ _ _ _ _ _ _ (c .before .before .before .before .before .before .before .before .pre .1) 14 refl (c .if3 .taken)
+check-14-requires c κs = schema-asked _ _ _ _ _ _ _ (start (c .before .before) .pre .1) 14 refl (c .if3 .taken)
 
 returns-3 : tie.Need-returns-3
 returns-3 c = search (alone-laws, needs)
 
 check-15-requires : tie.Need-check-15-requires
 unfolding plainCheck
-check-15-requires c κs = schema-asked _ _ _ _ _ _ _ (c .before .before .before .before .before .before .before .before .before .pre .1) 15 refl (c .if4 .taken)
+check-15-requires c κs = schema-asked _ _ _ _ _ _ _ (start (c .before .before .before) .pre .1) 15 refl (c .if4 .taken)
 
 returns-4 : tie.Need-returns-4
 returns-4 c = search (alone-laws, needs)
@@ -68,7 +72,9 @@ returns-7 : tie.Need-returns-7
 returns-7 c = search (alone-laws, needs)
 
 graph-fault-requires : tie.Need-graph-fault-requires
-graph-fault-requires c κs = (graph-asked _ _ _ _ _ _ _ (c .before .before .before .before .before .before .before .before .before .before .before .before .before .pre .1) (omega arith) (omega arith), (search needs, search needs))
+graph-fault-requires c κs =
+    let o = start (c .before .before .before .before .before .before .before) in
+    (graph-asked _ _ _ _ _ _ _ (o .pre .1) (omega arith) (omega arith), (search needs, search needs))
 
 returns-8 : tie.Need-returns-8
 returns-8 c = search needs

@@ -1,21 +1,16 @@
+-- `search::tick` meets its contract. One law for each answer. Assumes nothing.
 use borrow.Author.Needs.{needs}
 use Rattle.search.proofs.Plainly.{tick-yes, tick-no}
 use native.Mathlib.Omega.{arith}
 use Rattle.search.proofs.tick.Statement.{statement}
 use Rattle.search.proofs.tick.Tie as tie
-use Rattle.search.proofs.tick.Reads as reads
-use Rattle.search.proofs.tick.Lts as lts
-use Rattle.tables.proofs.belongs_to.Reads as belongs-to-reads
 
--- src/lib.rt:42:8
 belongs-to-requires : tie.Need-belongs-to-requires
 belongs-to-requires c κs = search needs
 
--- src/lib.rt:43:9
 returns : tie.Need-returns
 returns c = (search (tick-yes, needs), omega arith)
 
--- src/lib.rt:39:1
 returns-2 : tie.Need-returns-2
 returns-2 c = (search (tick-no, needs), omega arith)
 

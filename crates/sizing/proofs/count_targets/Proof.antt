@@ -4,7 +4,8 @@ use native.Mathlib.Omega.{arith}
 use borrow.Author.Needs.{needs}
 use Rattle.tables.specs.Read.{cell}
 use Rattle.world.specs.World.{askedAt}
-use Rattle.sizing.proofs.Tallying.{Counted, counted-start, counted-few, counted-end, counted-on, counted-less}
+use Rattle.sizing.proofs.Passing.{edges-fewer}
+use Rattle.sizing.proofs.Tallying.{Counted, counted-start, counted-few, counted-end, counted-on}
 use Rattle.sizing.proofs.count_targets.Statement.{statement}
 use Rattle.sizing.proofs.count_targets.Tie as tie
 
@@ -40,7 +41,7 @@ edge-from-requires-2 c κs = search needs
 
 loop-less : tie.Need-loop-less Inv-loop μ-loop
 unfolding cell
-loop-less c = counted-less _ _ _ (c .before .before .loop .n) _ _ (c .before .loop-test .taken) (c .edge-from2 .ensures)
+loop-less c = edges-fewer _ _ _ _ _ (c .before .loop-test .taken) (c .edge-from2 .ensures)
 
 loop-again : tie.Need-loop-again Inv-loop μ-loop
 unfolding cell

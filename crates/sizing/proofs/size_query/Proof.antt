@@ -35,7 +35,9 @@ first-row-requires c κs =
     (s .pre .0 .graph, (s .pre .1 .1 .0, omega (arith, s .pre .0 .graph .edges .nodes .nodes, s .pre .1 .1 .1)))
 
 shared-slice-read-n : tie.Need-shared-slice-read-n Inv-loop μ-loop
-shared-slice-read-n c = omega (arith, c .before .before .before .before .before .before .before .before .before .before .before .pre .1 .0 .held .long)
+shared-slice-read-n c =
+    let s = c .before .before .before .before .before .before .before .before .before .before .before in
+    omega (arith, s .pre .1 .0 .held .long)
 
 cast-n : tie.Need-cast-n Inv-loop μ-loop
 unfolding cell
@@ -95,7 +97,8 @@ pass-row-requires c κs =
 add-k : tie.Need-add-k Inv-loop μ-loop
 unfolding cell
 add-k c =
-    let s = c .before .before .before .before .before .before .before .before .before .before .before .before .before .before .before .before .before in
+    let l = c .before .before .before .before .before in
+    let s = l .before .before .before .before .before .before .before .before .before .before .before .before in
     omega (arith, s .pre .1 .0 .held .entries, c .before .before .before .before .loop-test .taken)
 
 loop-less : tie.Need-loop-less Inv-loop μ-loop

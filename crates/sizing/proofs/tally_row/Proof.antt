@@ -3,6 +3,7 @@ use Prim.Native.Nat.{_+_, _-_, _≤_}
 use native.Mathlib.Omega.{arith}
 use mathlib.Core.Path.{_≡_, refl, sym, ap, _∙_}
 use mathlib.Core.Logic.{⊎-elim}
+use lib.ListN.{length}
 use borrow.Author.Needs.{needs}
 use Rattle.tables.specs.Read.{cell}
 use Rattle.world.specs.World.{worldAt}
@@ -23,6 +24,11 @@ abbrev μ-loop : tie.MeasureT-loop
 shared-slice-read-n : tie.Need-shared-slice-read-n Inv-loop μ-loop
 shared-slice-read-n c = omega (arith, c .before .before .before .before .before .before .before .pre .0 .graph .edges .nodes .long)
 
+-- the row fits the area
+row-fits : (c : tie.At-loop Inv-loop μ-loop) → let a = c .before .before .before .before .before .before .before .before .args in
+    a .c + cell (a .g .now) 0 ≤ length (a .m .now)
+row-fits c = c .before .before .before .before .before .before .before .before .pre .1 .1 .1 .0
+
 loop-holds : tie.Need-loop-holds Inv-loop μ-loop
 loop-holds c = (refl, omega arith)
 
@@ -32,11 +38,11 @@ cast-number-at c = search needs
 
 add-number-at : tie.Need-add-number-at Inv-loop μ-loop
 unfolding cell
-add-number-at c = omega (arith, c .loop-test .taken, c .before .before .before .before .before .before .before .before .before .pre .1 .1 .1 .0)
+add-number-at c = omega (arith, c .loop-test .taken, row-fits (c .before))
 
 number-at-requires : tie.Need-number-at-requires Inv-loop μ-loop
 unfolding cell
-number-at-requires c κs = omega (arith, c .loop-test .taken, c .before .before .before .before .before .before .before .before .before .pre .1 .1 .1 .0)
+number-at-requires c κs = omega (arith, c .loop-test .taken, row-fits (c .before))
 
 own-tokens-requires : tie.Need-own-tokens-requires Inv-loop μ-loop
 own-tokens-requires c κs =
@@ -64,7 +70,7 @@ loop-again c =
     let inside = c .before .before .loop-test .taken in
     let i = c .before .before .before .loop .inv in
     let read = c .before .number-at .ensures in
-    let fits = s .pre .1 .1 .1 .0 in
+    let fits = row-fits (c .before .before .before) in
     ⊎-elim
     (λ w.
     let adds = w .3 ∙ w .2 .ensures in

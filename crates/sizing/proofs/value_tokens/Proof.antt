@@ -1,5 +1,5 @@
 -- `sizing::value_tokens` meets its contract, by what the lookup finds. Assumes nothing.
-use Prim.Native.Nat.{ℕ, _+_, _<_}
+use Prim.Native.Nat.{ℕ, _+_, _≤_, _<_}
 use mathlib.Core.Path.{sym, ap, _∙_}
 use Rattle.tables.specs.Read.{cell}
 use native.Mathlib.Omega.{arith}
@@ -33,17 +33,18 @@ is-sequence-requires c κs = (properties-table _ _ (c .before .before .before .b
 value-count-requires : tie.Need-value-count-requires
 value-count-requires c κs = (c .before .before .before .before .before .before .before .before .before .pre .0, within (c .before .before))
 
-cast-result : tie.Need-cast-result
-cast-result c =
+-- they are few
+few : (c : tie.After-value-count) → c .value-count .result ≤ 8200
+few c =
     let s = c .before .before .before .before .before .before .before .before .before .before in
-    let few = values-few (s .args .p .now) (s .args .v .now) (c .before .before .before .before .j .given .0 .0) in
+    let at-most = values-few (s .args .p .now) (s .args .v .now) (c .before .before .before .before .j .given .0 .0) in
     omega (arith, c .value-count .ensures, s .pre .1 .0)
 
+cast-result : tie.Need-cast-result
+cast-result c = omega (arith, few c)
+
 add-result : tie.Need-add-result
-add-result c =
-    let s = c .before .before .before .before .before .before .before .before .before .before in
-    let few = values-few (s .args .p .now) (s .args .v .now) (c .before .before .before .before .j .given .0 .0) in
-    omega (arith, c .value-count .ensures, s .pre .1 .0)
+add-result c = omega (arith, few c)
 
 returns-2 : tie.Need-returns-2
 returns-2 c =

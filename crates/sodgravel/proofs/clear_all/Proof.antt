@@ -1,6 +1,7 @@
 -- `sodgravel::clear_all` meets its contract: each area is cleared by its own call. Assumes nothing.
 use borrow.Author.Needs.{needs}
 use Rattle.sodgravel.specs.Calls.{cleared}
+use Rattle.sodgravel.proofs.Passing.{_then_}
 use Rattle.sodgravel.proofs.clear_all.Statement.{statement}
 use Rattle.sodgravel.proofs.clear_all.Tie as tie
 
@@ -49,7 +50,12 @@ returns c =
     let e3 = e4 .before .before .before .before in
     let e2 = e3 .before .before .before .before in
     let e1 = e2 .before .before .before .before in
-    (e1 .clear .ensures, (e2 .clear2 .ensures, (e3 .clear3 .ensures, (e4 .clear4 .ensures, (e5 .clear5 .ensures, e6 .clear-rows .ensures)))))
+    e1 .clear .ensures
+    then e2 .clear2 .ensures
+    then e3 .clear3 .ensures
+    then e4 .clear4 .ensures
+    then e5 .clear5 .ensures
+    then e6 .clear-rows .ensures
 
 pub clear-all-spec : {M : Type 1} → statement M
 clear-all-spec =

@@ -9,17 +9,24 @@ clear-requires c κs = search needs
 
 fill-requires : tie.Need-fill-requires
 fill-requires c κs =
-    (c .before .before .before .before .before .before .before .pre .0, (c .before .before .before .before .before .before .before .pre .1 .0, property-room _ _ (c .before .before .before .before .before .before .before .pre .1 .1 .0) (c .before .before .before .before .before .before .before .pre .1 .1 .1) _ (c .before .before .before .clear .ensures)))
+    let p = c .before .before .before .before .before .before .before .pre in
+    (p .0, (p .1 .0, property-room _ _ (p .1 .1 .0) (p .1 .1 .1) _ (c .before .before .before .clear .ensures)))
 
 slice-write-area : tie.Need-slice-write-area
 slice-write-area c = search needs
 
 same-length : tie.Need-same-length
-same-length c = property-same _ _ (c .before .before .before .before .before .before .before .before .before .before .pre .1 .1 .0) (c .before .before .before .before .before .before .before .before .before .before .pre .1 .1 .1) _ (c .before .before .before .before .before .before .clear .ensures) _ (c .before .before .fill .ensures .1) _
+same-length c =
+    let k = c .before .before .before .before .before .before in
+    let p = k .before .before .before .before .pre in
+    property-same _ _ (p .1 .1 .0) (p .1 .1 .1) _ (k .clear .ensures) _ (c .before .before .fill .ensures .1) _
 
 returns : tie.Need-returns
 returns c =
-    property-laid _ _ (c .before .before .before .before .before .before .before .before .before .before .pre .1 .1 .0) (c .before .before .before .before .before .before .before .before .before .before .pre .1 .1 .1) _ (c .before .before .before .before .before .before .clear .ensures) _ (c .before .before .fill .ensures .1) _ (c .before .before .fill .ensures .0)
+    let k = c .before .before .before .before .before .before in
+    let p = k .before .before .before .before .pre in
+    let f = c .before .before .fill .ensures in
+    property-laid _ _ (p .1 .1 .0) (p .1 .1 .1) _ (k .clear .ensures) _ (f .1) _ (f .0)
 
 pub lay-properties-spec : {M : Type 1} → statement M
 lay-properties-spec =

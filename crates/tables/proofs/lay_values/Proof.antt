@@ -14,11 +14,17 @@ slice-write-area : tie.Need-slice-write-area
 slice-write-area c = search needs
 
 same-length : tie.Need-same-length
-same-length c = value-same _ _ (c .before .before .before .before .before .before .before .before .before .before .pre .1 .1 .0) (c .before .before .before .before .before .before .before .before .before .before .pre .1 .1 .1) _ (c .before .before .before .before .before .before .clear .ensures) _ (c .before .before .fill-values .ensures .1) _
+same-length c =
+    let k = c .before .before .before .before .before .before in
+    let p = k .before .before .before .before .pre in
+    value-same _ _ (p .1 .1 .0) (p .1 .1 .1) _ (k .clear .ensures) _ (c .before .before .fill-values .ensures .1) _
 
 returns : tie.Need-returns
 returns c =
-    value-laid _ _ (c .before .before .before .before .before .before .before .before .before .before .pre .1 .1 .0) (c .before .before .before .before .before .before .before .before .before .before .pre .1 .1 .1) _ (c .before .before .before .before .before .before .clear .ensures) _ (c .before .before .fill-values .ensures .1) _ (c .before .before .fill-values .ensures .0)
+    let k = c .before .before .before .before .before .before in
+    let p = k .before .before .before .before .pre in
+    let f = c .before .before .fill-values .ensures in
+    value-laid _ _ (p .1 .1 .0) (p .1 .1 .1) _ (k .clear .ensures) _ (f .1) _ (f .0)
 
 pub lay-values-spec : {M : Type 1} → statement M
 lay-values-spec =

@@ -62,15 +62,18 @@ loop-less c = search needs
 loop-again : tie.Need-loop-again Inv-loop μ-loop
 loop-again c =
     let w : length (c .before .before .args .t5) ≡ 12 = search needs in
-    (next-stored _ _ _ _ _ (c .before .loop .inv .0) (omega arith) (simp length-set (omega arith)), omega arith, simp length-set (simp length-set at (c .before .loop .inv .2)))
+    let v = c .before .loop .inv in
+    (next-stored _ _ _ _ _ (v .0) (omega arith) (simp length-set (omega arith)), omega arith, simp length-set (simp length-set at (v .2)))
 
 same-length : tie.Need-same-length Inv-loop μ-loop
 same-length c = c .before .loop .inv .2 ∙ simp length-set
 
 returns : tie.Need-returns Inv-loop μ-loop
 returns c =
-    let w : length (c .before .before .args .t5) ≡ 12 = search needs in
-    wide-stored _ _ _ (c .before .before .args .t5) (c .before .before .args .area .now) _ (c .before .loop .i) (c .before .loop .inv .0) (omega arith) (omega arith)
+    let a = c .before .before .args in
+    let l = c .before .loop in
+    let w : length (a .t5) ≡ 12 = search needs in
+    wide-stored _ _ _ (a .t5) (a .area .now) _ (l .i) (l .inv .0) (omega arith) (omega arith)
 
 pub put-wide-spec : {M : Type 1} → statement M
 put-wide-spec =

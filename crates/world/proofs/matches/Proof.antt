@@ -9,14 +9,18 @@ use Rattle.world.proofs.matches.Tie as tie
 wide-at-requires : tie.Need-wide-at-requires
 wide-at-requires c κs = search needs
 
-label-at-requires : tie.Need-label-at-requires
-label-at-requires c κs =
+named-at-requires : tie.Need-named-at-requires
+named-at-requires c κs =
     let s = c .before .before .before .before in
     let h = s .pre .0 in
-    (omega (arith, h .long), (h .low, (omega (arith, h .few), (h .pairs) (s .args .j) (s .pre .1 .1 .1))))
+    (omega (arith, h .long), (h .low, (omega (arith, h .few), (omega arith, (h .pairs) (s .args .j) (s .pre .1 .1 .1)))))
 
-asked-label-requires : tie.Need-asked-label-requires
-asked-label-requires c κs = search needs
+named-at-requires-2 : tie.Need-named-at-requires-2
+named-at-requires-2 c κs =
+    let s = c .before .before .before .before .before in
+    let h = s .pre .1 .0 in
+    let few = h .entries in
+    (omega (arith, h .long), (omega arith, (omega arith, (omega arith, (h .pairs) (s .args .k) (s .pre .1 .1 .0)))))
 
 same-label-requires : tie.Need-same-label-requires
 same-label-requires c κs = search needs
@@ -25,7 +29,7 @@ returns : tie.Need-returns
 returns c =
     let x = c .before .before in
     let w = x .before .before in
-    row-asked _ _ _ _ _ _ _ _ _ (w .wide-at .ensures) (x .before .if1 .taken) (x .label-at .ensures .0) (c .before .asked-label .ensures .0)
+    row-asked _ _ _ _ _ _ _ _ _ _ (w .wide-at .ensures) (x .before .if1 .taken) (x .named-at .ensures .0) (c .before .named-at2 .ensures .0)
     (c .same-label .ensures)
 
 returns-2 : tie.Need-returns-2
@@ -36,8 +40,8 @@ matches-spec =
     tie.close
     (tie.spec
     wide-at-requires
-    label-at-requires
-    asked-label-requires
+    named-at-requires
+    named-at-requires-2
     same-label-requires
     returns
     returns-2)

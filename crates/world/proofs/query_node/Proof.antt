@@ -1,4 +1,5 @@
--- `world::query_node` meets its contract. The loop's invariant: none of the nodes before u is of the query type. The measure is the nodes left. Assumes nothing.
+-- `world::query_node` meets its contract. The loop's invariant: none of the nodes before u is of the query type. The measure is the nodes left.
+-- Assumes nothing.
 use Prim.Native.Nat.{_≤_, _-_}
 use native.Mathlib.Omega.{arith}
 use Rattle.tables.specs.Read.{cell}

@@ -1,20 +1,22 @@
--- `query::args_taken` meets its contract. The loop's invariant: the arguments before the i-th say nothing. The measure is the arguments left. Assumes nothing.
+-- `query::args_fault` meets its contract. The loop's invariant: the arguments before the i-th pass. The measure is the arguments left.
+-- Assumes nothing.
 use Prim.Native.Nat.{_≤_, _-_}
 use mathlib.Core.Path.{_≡_}
 use native.Mathlib.Omega.{arith}
 use borrow.Author.Needs.{needs}
 use borrow.Author.Tests.{not-false}
 use Rattle.tables.specs.Read.{wideAt, schemaAt}
-use Rattle.query.specs.Faults.{untaken}
+use Rattle.query.specs.Faults.{argPasses, argsFault}
 use Rattle.query.proofs.Arguments.{argsFrom, args-done, arg-laws, stop-laws, args-on}
-use Rattle.query.proofs.args_taken.Statement.{statement}
-use Rattle.query.proofs.args_taken.Tie as tie
+use Rattle.query.proofs.args_fault.Statement.{statement}
+use Rattle.query.proofs.args_fault.Tie as tie
 
 abbrev Inv-loop : tie.InvT-loop
-Inv-loop a q k f n i₀ i = (untaken a q k f ≡ argsFrom ((schemaAt a .takesArg) f) q k i) × (i ≤ n) × (n ≡ wideAt q 8 k 5) × (n ≤ 4)
+Inv-loop check a q k f n i₀ i =
+    (argsFault check a q k f ≡ argsFrom (argPasses check (schemaAt a) f) q k i) × (i ≤ n) × (n ≡ wideAt q 8 k 5) × (n ≤ 4)
 
 abbrev μ-loop : tie.MeasureT-loop
-μ-loop a q k f n i₀ i = n - i
+μ-loop check a q k f n i₀ i = n - i
 
 entry-cell-requires : tie.Need-entry-cell-requires Inv-loop μ-loop
 entry-cell-requires c κs = search (arg-laws, needs)
@@ -34,17 +36,17 @@ add-entry-cell c = search (arg-laws, needs)
 entry-cell-requires-2 : tie.Need-entry-cell-requires-2 Inv-loop μ-loop
 entry-cell-requires-2 c κs = search (arg-laws, needs)
 
-takes-arg-requires : tie.Need-takes-arg-requires Inv-loop μ-loop
-takes-arg-requires c κs = search (arg-laws, needs)
+arg-passes-requires : tie.Need-arg-passes-requires Inv-loop μ-loop
+arg-passes-requires c κs = search (arg-laws, needs)
 
-mul-t14 : tie.Need-mul-t14 Inv-loop μ-loop
-mul-t14 c = search (arg-laws, needs)
+mul-t15 : tie.Need-mul-t15 Inv-loop μ-loop
+mul-t15 c = search (arg-laws, needs)
 
-add-t15 : tie.Need-add-t15 Inv-loop μ-loop
-add-t15 c = search (arg-laws, needs)
+add-t16 : tie.Need-add-t16 Inv-loop μ-loop
+add-t16 c = search (arg-laws, needs)
 
-cast-t16 : tie.Need-cast-t16 Inv-loop μ-loop
-cast-t16 c = search (arg-laws, needs)
+cast-t17 : tie.Need-cast-t17 Inv-loop μ-loop
+cast-t17 c = search (arg-laws, needs)
 
 returns : tie.Need-returns Inv-loop μ-loop
 returns c = search stop-laws
@@ -57,15 +59,19 @@ loop-less c = search (arg-laws, needs)
 
 loop-again : tie.Need-loop-again Inv-loop μ-loop
 loop-again c =
-    let p = c .before .before .before in
-    let s = p .before .before .before .before .before in
-    (args-on _ _ _ _ _ _ _ _ (s .pre .1 .0) (s .pre .1 .1) (p .before .loop .inv .2) (p .loop-test .taken) (p .before .loop .inv .0) (c .before .before .entry-cell2 .ensures) (c .before .takes-arg .ensures) (not-false _ (c .if1 .left)), omega arith, search needs, omega arith)
+    let turn = c .before .before .before in
+    let held = turn .before .before .before .before .before .pre .1 in
+    let inv = turn .before .loop .inv in
+    let passes = not-false _ (c .if1 .left) in
+    let on = args-on _ _ _ _ _ _ _ _ (held .0) (held .1) (inv .2) (turn .loop-test .taken) (inv .0)
+    (c .before .before .entry-cell2 .ensures) (c .before .arg-passes .ensures) passes in
+    (on, omega arith, search needs, omega arith)
 
 returns-2 : tie.Need-returns-2 Inv-loop μ-loop
 returns-2 c = search args-done
 
-pub args-taken-spec : {M : Type 1} → statement M
-args-taken-spec =
+pub args-fault-spec : {M : Type 1} → statement M
+args-fault-spec =
     tie.close
     (tie.spec
     Inv-loop
@@ -76,10 +82,10 @@ args-taken-spec =
     mul-entry-cell
     add-entry-cell
     entry-cell-requires-2
-    takes-arg-requires
-    mul-t14
-    add-t15
-    cast-t16
+    arg-passes-requires
+    mul-t15
+    add-t16
+    cast-t17
     returns
     add-i
     loop-less

@@ -1,17 +1,17 @@
--- `graph::label_at` meets its contract. The loop's invariant: the first i numbers are copied. The measure is how many are left. Assumes nothing.
+-- `graph::named_at` meets its contract. The loop's invariant: the first i numbers are copied. The measure is how many are left. Assumes nothing.
 use Prim.Native.Nat.{_≤_, _-_}
 use mathlib.Core.Path.{_≡_}
 use lib.ListN.{length}
 use borrow.Author.Needs.{needs}
-use Rattle.graph.proofs.Copying.{FromTable, copying}
-use Rattle.graph.proofs.label_at.Statement.{statement}
-use Rattle.graph.proofs.label_at.Tie as tie
+use Rattle.graph.proofs.Copying.{Copied, fromTable, copying}
+use Rattle.graph.proofs.named_at.Statement.{statement}
+use Rattle.graph.proofs.named_at.Tie as tie
 
 abbrev Inv-loop : tie.InvT-loop
-Inv-loop a base j pairs₀ i₀ pairs i = FromTable a base j pairs i × ((i ≤ 8) × (length pairs ≡ 8))
+Inv-loop a base j c pairs₀ i₀ pairs i = Copied (fromTable a base j) pairs i × ((i ≤ 8) × (length pairs ≡ 8))
 
 abbrev μ-loop : tie.MeasureT-loop
-μ-loop a base j pairs₀ i₀ pairs i = 8 - i
+μ-loop a base j c pairs₀ i₀ pairs i = 8 - i
 
 loop-holds : tie.Need-loop-holds Inv-loop μ-loop
 loop-holds c = search (copying, needs)
@@ -46,8 +46,8 @@ wide-at-requires-3 c κs = search (copying, needs)
 returns : tie.Need-returns Inv-loop μ-loop
 returns c = search (copying, needs)
 
-pub label-at-spec : {M : Type 1} → statement M
-label-at-spec =
+pub named-at-spec : {M : Type 1} → statement M
+named-at-spec =
     tie.close
     (tie.spec
     Inv-loop

@@ -147,14 +147,22 @@ def rounds_of(edits):
     """Parts the edits into rounds in which no function is changed twice."""
     rounds = []
     for edit in edits:
+        places = with_cycle(edit)
         for one, taken in rounds:
-            if edit.places and taken and not set(edit.places) & taken:
+            if places and taken and not places & taken:
                 one.append(edit)
-                taken |= set(edit.places)
+                taken |= places
                 break
         else:
-            rounds.append(([edit], set(edit.places)))
+            rounds.append(([edit], places))
     return [one for one, _ in rounds]
+
+
+def with_cycle(edit):
+    """The functions that an edit changes, and those of their cycle of calls, which have one proof."""
+    folder = os.path.join(ROOT, "crates", edit.crate, "proofs")
+    cycles = [set(name.strip("+").split("+")) for name in os.listdir(folder) if name.startswith("+")]
+    return set(edit.places).union(*(cycle for cycle in cycles if cycle & set(edit.places)))
 
 
 def check(copy, crate, log):
@@ -167,6 +175,18 @@ def check(copy, crate, log):
     if log:
         open(log, "w", encoding="utf-8").write(text)
     return ran.returncode, text, needs
+
+
+def has_proof(folder, name):
+    """Whether a function has a proof file, of its own or of its cycle of calls."""
+    names = (part for _, parts, _ in os.walk(os.path.join(folder, "proofs")) for part in parts)
+    return any(name in part.strip("+").split("+") for part in names)
+
+
+def told_of_functions(copy, crate):
+    """What the prover says of a crate function by function: of one that has no proof file it says nothing else."""
+    ran = subprocess.run(["rt", "dev", crate], cwd=copy, capture_output=True, text=True, env={**os.environ, "RT_CUT": "0"})
+    return ran.stdout + ran.stderr
 
 
 def needs_in(folder):
@@ -198,7 +218,7 @@ def refusals(text):
 
 def owners(file, need):
     """The functions whose proof a file is. Where functions that call each other are proved in one, a need carries the name of its own."""
-    part = re.match(r"proofs/(?:\w+/)*([\w+]+)/Proof\.antt$", file)
+    part = re.match(r"proofs/(?:\w+/)*([\w+]+)/Proof(?:/\w+)?\.antt$", file)
     if not part:
         return [""]
     members = part.group(1).strip("+").split("+")
@@ -266,6 +286,8 @@ def try_crate(crate, only, logs):
         for number, one in enumerate(rounds):
             apply(one, clean, folder)
             status, text, after = check(copy, crate, os.path.join(logs, f"{crate}.{number}") if logs else "")
+            if any(not has_proof(folder, name) for edit in one for name in edit.places):
+                text += told_of_functions(copy, crate)
             found = refusals(text)
             for edit in one:
                 judge(edit, found, before, after)

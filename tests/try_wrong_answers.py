@@ -7,7 +7,7 @@
 The wrong answers are the edits in crates/CRATE/must-fail and in tests/wrong_answers/CRATE. They are applied to a copy of the
 repository in a temporary folder, and `rt dev CRATE` checks each. A function is proved from the contracts of those it calls, so an
 edit in one function touches the proof of no other: one check tries edits of many functions at once, at most one of each. An edit
-of a file that is not src/lib.rt, or of a line outside of every function, has a check of its own. An edit fits where what is to be
+of a line outside of every function, or of a contract, has a check of its own. An edit fits where what is to be
 proved of the function it changes has the same names as before (`rt dev CRATE --generated`), and none of them is missing.
 
 One line for each edit: crate, function, edit, and what is refused. Then, loudly, the edits that are not refused or do not fit, and
@@ -25,12 +25,13 @@ import tempfile
 ROOT = os.path.dirname(os.path.dirname(os.path.abspath(__file__)))
 TABLE = os.path.join(ROOT, "docs", "WRONG_ANSWERS.md")
 HEADING = "## The table"
-FUNCTION = re.compile(r"^(\s*)(pub )?fn (\w+)")
+FUNCTION = re.compile(r"^(\s*)(?:(pub )(extern \"C\" )?)?fn (\w+)")
+CONTRACT = re.compile(r"≡|ensures|requires")
 CALL = re.compile(r"(?<![\w:])(?:self\.|\w+\.|\w+::)?(\w+)\(")
 ERROR = re.compile(r"^\S+?/crates/\w+/(\S+?):\d+:\d+: error: (.*)")
 ALONE = re.compile(r"^fn (?:\w+::)+(\w+): no proof: .*; `search` does not close (.*)")
 NEED = re.compile(r"`([^`]+)`: (.*)")
-UNFIT = re.compile(r"has no `|not in scope")
+UNFIT = re.compile(r"has no `|not in scope|this pattern needs")
 FOLLOWS = "was not admitted"
 
 
@@ -89,22 +90,30 @@ class Source:
     def __init__(self, crate):
         self.public = []
         self.bodies = {}
+        self.files = {}
+        folder = os.path.join(ROOT, "crates", crate, "src")
+        for file in sorted(os.listdir(folder), key=lambda file: (file != "lib.rt", file)):
+            self.read(folder, file)
+
+    def read(self, folder, file):
+        """The functions of a file. Public are those of lib.rt, and those that have a C name."""
         name, end = "", ""
-        for line in open(os.path.join(ROOT, "crates", crate, "src", "lib.rt"), encoding="utf-8").read().split("\n"):
+        for line in open(os.path.join(folder, file), encoding="utf-8").read().split("\n"):
             found = FUNCTION.match(line)
             if found:
-                name, end = found.group(3), found.group(1) + "}"
+                name, end = found.group(4), found.group(1) + "}"
                 self.bodies[name] = ""
-                if found.group(2):
+                self.files[name] = f"src/{file}"
+                if found.group(3) or (found.group(2) and file == "lib.rt"):
                     self.public.append(name)
             if name:
                 self.bodies[name] += line + "\n"
             if line == end:
                 name = ""
 
-    def function_of(self, old):
-        """The function in which a text stands, '' where it stands outside of all."""
-        return next((name for name, body in self.bodies.items() if old in body), "")
+    def function_of(self, file, old):
+        """The function in which a text of a file stands, '' where it stands outside of all."""
+        return next((name for name, body in self.bodies.items() if self.files[name] == file and old in body), "")
 
     def public_for(self, name):
         """The public functions that answer through a function: itself, or those that call it."""
@@ -134,7 +143,7 @@ def edits_of(crate):
 
 def place(edit, source):
     """Finds the functions that an edit changes (none where it changes something else), and those whose answer it is."""
-    names = [source.function_of(old) if file == "src/lib.rt" else "" for file, old, _ in edit.pairs]
+    names = ["" if CONTRACT.search(old) else source.function_of(file, old) for file, old, _ in edit.pairs]
     edit.places = sorted(set(names)) if all(names) else []
     first = edit.name.split(".")[0]
     if first in source.bodies:

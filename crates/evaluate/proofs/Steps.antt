@@ -4,9 +4,7 @@ use native.Mathlib.Omega.{arith}
 use mathlib.Core.Path.{_≡_, refl, sym, ap, _∙_}
 use mathlib.Core.Bool.{Bool, true, false}
 use mathlib.Core.List.{List, [], _∷_, _++_, append-assoc}
-use lib.Dec.{ltb}
 use lib.ListN.{drop}
-use borrow.Author.Tests.{ltb-true, ltb-false}
 use Rattle.rules.specs.Text.{fieldNo, typeNo}
 use Rattle.rules.specs.Lists.{each}
 use Rattle.rules.specs.Graph.{Label}
@@ -20,7 +18,7 @@ use Rattle.world.specs.World.{worldAt, askedAt, asksAt, entryIn, edgeFrom, targ
 use Rattle.evaluate.specs.Evaluate.{selected, below, entered, enlisted, braced}
 use Rattle.world.specs.declared.FieldKind.{FieldKind}
 use Rattle.world.specs.declared.FieldKind.the-variants.{Scalar, Objects, Object}
-use Rattle.world.proofs.Targets.{targets-all, targets-done, targets-more, edge-on, world-lookup, world-targets, world-shape, world-holds}
+use Rattle.world.proofs.Targets.{targets-all, targets-done, targets-more, world-lookup, world-targets, world-shape, world-holds}
 use Rattle.world.proofs.Asked.{asks-field, asks-on, asked-field, entries-end, entries-more}
 use Rattle.evaluate.proofs.Write.{Then}
 
@@ -73,14 +71,6 @@ module _ (w : World) (q : List ℕ) (k x : ℕ) where
   below-then z s = record { eq = ap (λ (l : List ℕ). l ++ s) (below-is z) }
 
 -- ---- the objects of the edges from j on, and the bracket behind them; e is the first of these edges
-
-pub edge-less : (g : List ℕ) (u : ℕ) (l : Label) (e e′ : ℕ) → e′ ≡ edgeFrom g u l (e + 1) → e < cell g 1
-    → cell g 1 - e′ < cell g 1 - e
-edge-less g u l e e′ is h = go (ltb e′ (cell g 1)) refl
-  where
-    go : (b : Bool) → ltb e′ (cell g 1) ≡ b → cell g 1 - e′ < cell g 1 - e
-    go true z = let m : e′ < cell g 1 = ltb-true _ _ z in omega (arith, edge-on g u l (e + 1) e′ is m)
-    go false z = let m : cell g 1 ≤ e′ = ltb-false _ _ z in omega arith
 
 unfoldable pub objectsFrom : World → List ℕ → List ℕ → ℕ → ℕ → ℕ → List ℕ
 objectsFrom w g q k u j = each (λ x. object (below w q k x)) (targetsFrom g u (askedAt q k) j) ++ (closeList ∷ [])

@@ -18,7 +18,7 @@ use Rattle.rules.specs.declared.TypeNo.{TypeNo}
 use Rattle.rules.proofs.Bools.{or-left}
 use Rattle.tables.specs.Read.{cell, schemaAt}
 use Rattle.graph.specs.Faults.{nodesAt, rowFor, labelFor, undeclared, untaken, outside, fault22, fault23, fault24E, fault24P}
-use Rattle.graph.proofs.Rising.{Behind, behind-worse, behind-if, behind-later, behind-each, first-decides, earlier-decides, last-decides, worse-none, fault-append}
+use Rattle.rules.proofs.Rising.{Behind, behind-worse, behind-if, behind-later, behind-each, first-decides, earlier-decides, last-decides, worse-none, fault-append}
 
 -- an edge or a property
 pub datum-edge : (l : ℕ) → l ≡ 69 → true ≡ (eqb l 69 || eqb l 80)

@@ -1,4 +1,3 @@
-pub mod Rising
 pub mod Paired
 pub mod Copying
 pub mod Turning

@@ -17,7 +17,7 @@ use Rattle.rules.specs.declared.FieldNo.{FieldNo}
 use Rattle.rules.specs.declared.TypeNo.{TypeNo}
 use Rattle.tables.specs.Read.{wideAt, valuesAt, schemaAt}
 use Rattle.graph.specs.Faults.{labelFor, undeclared, untaken, outside}
-use Rattle.graph.proofs.Rising.{Behind, behind-later, behind-each, first-decides, earlier-decides, last-decides, fault-append}
+use Rattle.rules.proofs.Rising.{Behind, behind-later, behind-each, first-decides, earlier-decides, last-decides, fault-append}
 use Rattle.graph.proofs.Paired.{pair, pairs-on}
 
 -- ---- the pairs of a row

@@ -30,7 +30,7 @@ pub fn wide_at(a: &[u32], base: usize, j: usize, k: usize) -> u32
     requires { ⌜ k < 14 ⌝ }
     ensures { λ r. ⌜ r ≡ wideAt (now (a .entry)) base j k ⌝ }
 {
-    a[base + 14 * j + k]
+    tables::row_cell(a, base, 14, j, k)
 }
 
 // The type of node u.

@@ -15,10 +15,11 @@ use Rattle.rules.specs.Schema.{Schema, declaredArg, takesArg}
 use Rattle.rules.specs.declared.ArgNo.{ArgNo}
 use Rattle.rules.specs.declared.FieldNo.{FieldNo}
 use Rattle.rules.specs.declared.Fault.the-variants.{Fine, Field}
+use Rattle.rules.proofs.Rising.{Behind, behind-each, each-stop, each-on}
 use Rattle.tables.specs.Read.{cell, wideAt, numbersAt, schemaAt}
 use Rattle.query.specs.Entries.{QueryHeld, entryAt}
 use Rattle.query.specs.Faults.{argPasses, argsFault}
-use Rattle.query.proofs.Cells.{number-at, count-at, numbers-long, From, each-from, each-stop, each-on}
+use Rattle.query.proofs.Cells.{number-at, count-at, numbers-long}
 
 abbrev pub argTest : (ArgNo → Bool) → Pair → Bool
 argTest ok p = not (ok (p .arg))
@@ -31,9 +32,9 @@ module _ (ok : ArgNo → Bool) (q : List ℕ) (k : ℕ) where
   unfolding argsFrom entryAt
   args-all = rw (count-at q k) (simp unary-clauses)
 
-  args-late : From 6 (argsFrom 0)
+  args-late : Behind 6 (argsFrom 0)
   unfolding argsFrom
-  args-late = each-from (argTest ok) 6 (pairs (wideAt q 8 k 5 - 0) (drop 4 (numbersAt q 8 k))) (omega arith)
+  args-late = behind-each (argTest ok) 2 6 (pairs (wideAt q 8 k 5 - 0) (drop 4 (numbersAt q 8 k)))
 
   -- the two numbers of pair i, and those behind
   ahead : (i : ℕ) → QueryHeld q → k < cell q 0 → i < wideAt q 8 k 5
@@ -74,13 +75,13 @@ module _ (ok : ArgNo → Bool) (q : List ℕ) (k : ℕ) where
 
     pub args-stop : b ≡ false → Field (6 + 2 * i) ≡ asFault total
     args-stop g =
-        let stops = each-stop (argTest ok) (6 + 2 * i) (here i) (behindIt i) (omega arith) (ap not (found ∙ g)) in
+        let stops = each-stop (argTest ok) 2 (6 + 2 * i) (here i) (behindIt i) (omega arith) (ap not (found ∙ g)) in
         sym (ap asFault (t ∙ turn i h l (omega arith) ∙ stops))
 
     pub args-on : b ≡ true → total ≡ argsFrom (i + 1)
     unfolding argsFrom
     args-on g =
-        let on = each-on (argTest ok) (6 + 2 * i) (here i) (behindIt i) (ap not (found ∙ g)) in
+        let on = each-on (argTest ok) 2 (6 + 2 * i) (here i) (behindIt i) (ap not (found ∙ g)) in
         let z : 2 + (6 + 2 * i) ≡ 6 + 2 * (i + 1) = omega arith in
         t ∙ turn i h l (omega arith) ∙ on ∙ ap (λ (m : ℕ). faultOf (testEach (argTest ok) 2 m (behindIt i))) z
 
@@ -100,7 +101,7 @@ module _ (n : ℕ) (a q : List ℕ) (k : ℕ) (f : FieldNo) where
   unfolding argsFault
   fault-all = args-all (argPasses n (schemaAt a) f) q k
 
-  pub fault-late : From 6 (argsFault n a q k f)
+  pub fault-late : Behind 6 (argsFault n a q k f)
   fault-late = rw fault-all (args-late (argPasses n (schemaAt a) f) q k)
 
 module _ (n : ℕ) (s : Schema) (f : FieldNo) (x : ArgNo) (r : Bool) where

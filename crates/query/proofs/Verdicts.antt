@@ -14,15 +14,12 @@ use Rattle.rules.specs.Query.{hasChild}
 use Rattle.rules.specs.declared.TypeNo.{TypeNo}
 use Rattle.rules.specs.declared.Fault.{Fault}
 use Rattle.rules.specs.declared.Fault.the-variants.{Fine, Field}
+use Rattle.rules.proofs.Rising.{Behind, earlier-decides, worse-none}
 use Rattle.tables.specs.Read.{wideAt, schemaAt}
 use Rattle.query.specs.Entries.{entryAt, behind}
 use Rattle.query.specs.Faults.{fault32, fault33, fault34, faultFor, argPasses, argsFault}
-use Rattle.query.proofs.Cells.{letter-at, second-at, third-at, From, from-less, keeps}
+use Rattle.query.proofs.Cells.{letter-at, second-at, third-at}
 use Rattle.query.proofs.Arguments.{fault-late}
-
-worse-none : (x : Option ℕ) → worse x none ≡ x
-worse-none none = refl
-worse-none (some f) = refl
 
 -- ---- check 33: the letter; label too large, field declared, what the arguments say; type declared
 
@@ -31,14 +28,14 @@ form33 l large d args t =
     worse (elim (eqb l 70) [ true ↦ worse (faultIf large 3) (worse (faultIf (not d) 4) args) | false ↦ none ])
     (worse (elim (eqb l 84) [ true ↦ worse (faultIf (not t) 3) none | false ↦ none ]) none)
 
-large-any : (d t : Bool) (x : Option ℕ) → From 6 x → form33 70 true d x t ≡ some 3
+large-any : (d t : Bool) (x : Option ℕ) → Behind 6 x → form33 70 true d x t ≡ some 3
 unfolding form33
-large-any true t x h = rw (keeps 3 x (omega arith) (from-less 3 6 x (omega arith) h))
-large-any false t x h = rw (keeps 4 x (omega arith) (from-less 4 6 x (omega arith) h))
+large-any true t x h = rw (earlier-decides 3 6 x (omega arith) (omega arith) h)
+large-any false t x h = rw (earlier-decides 4 6 x (omega arith) (omega arith) h)
 
-unknown-any : (t : Bool) (x : Option ℕ) → From 6 x → form33 70 false false x t ≡ some 4
+unknown-any : (t : Bool) (x : Option ℕ) → Behind 6 x → form33 70 false false x t ≡ some 4
 unfolding form33
-unknown-any t x h = rw (keeps 4 x (omega arith) (from-less 4 6 x (omega arith) h))
+unknown-any t x h = rw (earlier-decides 4 6 x (omega arith) (omega arith) h)
 
 args-any : (t : Bool) (x : Option ℕ) → form33 70 false true x t ≡ x
 unfolding form33
@@ -109,17 +106,17 @@ four-zero false x h = h
 four-zero true none h = refl
 four-zero true (some g) h = h
 
-four-any : (leaf child : Bool) (x : Option ℕ) → From 6 x
+four-any : (leaf child : Bool) (x : Option ℕ) → Behind 6 x
     → worse (worse (some 4) (worse (faultIf (leaf && child) 0) (worse (faultIf (not leaf && not child) 0) x))) none ≡ some 4
 four-any leaf child x h =
-    let late = keeps 4 x (omega arith) (from-less 4 6 x (omega arith) h) in
+    let late = earlier-decides 4 6 x (omega arith) (omega arith) h in
     worse-none _ ∙ four-zero (leaf && child) _ (four-zero (not leaf && not child) x late)
 
-unowned : (h leaf child s : Bool) (x : Option ℕ) → From 6 x → form34 70 false h leaf child x s ≡ some 4
+unowned : (h leaf child s : Bool) (x : Option ℕ) → Behind 6 x → form34 70 false h leaf child x s ≡ some 4
 unfolding form34
 unowned h leaf child s x f = four-any leaf child x f
 
-unheld : (leaf child s : Bool) (x : Option ℕ) → From 6 x → form34 70 true false leaf child x s ≡ some 4
+unheld : (leaf child s : Bool) (x : Option ℕ) → Behind 6 x → form34 70 true false leaf child x s ≡ some 4
 unfolding form34
 unheld leaf child s x f = four-any leaf child x f
 

@@ -20,7 +20,7 @@ pub fn entry_cell(q: &[u32], k: usize, c: usize) -> u32
     requires { ⌜ c < 14 ⌝ }
     ensures { λ r. ⌜ r ≡ wideAt (now (q .entry)) 8 k c ⌝ }
 {
-    q[8 + 14 * k + c]
+    tables::row_cell(q, 8, 14, k, c)
 }
 
 // Whether entry k has a child: a line one deeper before the next line that is no deeper.

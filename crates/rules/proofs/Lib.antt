@@ -3,6 +3,7 @@ pub mod Clean
 pub mod Places
 pub mod Parting
 pub mod Sound
+pub mod Rising
 pub mod Labels
 pub mod Samples
 pub mod Sums

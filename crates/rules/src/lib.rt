@@ -20,7 +20,8 @@ pub enum Fault {
     Field(u32),
 }
 
-// What a call returns: number, place, size, visits.
+// What a call returns: number, place, size, visits. Laid out as in C, so that it can be handed to C by value.
+#[repr(C)]
 pub struct Outcome {
     pub number: u32,
     pub place: u32,

@@ -12,15 +12,7 @@ use rules::Fault;
 use rules::FieldNo;
 use rules::TypeNo;
 
-// Cell k of row j of a narrow table.
-fn row_cell(a: &[u32], base: usize, j: usize, k: usize) -> u32
-    requires { ⌜ base + 3 * j + k < length (now a) ⌝ }
-    ensures { λ r. ⌜ r ≡ cell (now (a .entry)) (base + 3 * j + k) ⌝ }
-{
-    a[base + 3 * j + k]
-}
-
-// The same of a table whose count stands at `head`: 0 where there is no such row.
+// Cell k of row j of a narrow table whose count stands at `head`: 0 where there is no such row.
 pub fn narrow_at(a: &[u32], head: usize, base: usize, j: u32, k: usize) -> u32
     requires { ⌜ head < length (now a) ⌝ }
     requires { ⌜ base + 3 * cell (now a) head ≤ length (now a) ⌝ }
@@ -29,7 +21,7 @@ pub fn narrow_at(a: &[u32], head: usize, base: usize, j: u32, k: usize) -> u32
     ensures { λ r. ⌜ r ≡ narrowAt (now (a .entry)) head base j k ⌝ }
 {
     if j < a[head] {
-        return row_cell(a, base, j as usize, k);
+        return tables::row_cell(a, base, 3, j as usize, k);
     }
     0
 }
@@ -41,8 +33,8 @@ pub fn pair_at(a: &[u32], base: usize, x: u32, y: u32, j: usize) -> bool
     requires { ⌜ j ≤ 1024 ⌝ }
     ensures { λ r. ⌜ r ≡ pairAt (now (a .entry)) base x y j ⌝ }
 {
-    if row_cell(a, base, j, 1) == x {
-        return row_cell(a, base, j, 2) == y;
+    if tables::row_cell(a, base, 3, j, 1) == x {
+        return tables::row_cell(a, base, 3, j, 2) == y;
     }
     false
 }
@@ -75,7 +67,7 @@ fn first_in(a: &[u32], base: usize, n: u32, x: u32) -> bool
     let end = n as usize;
     let mut j: usize = 0;
     while j < end {
-        if row_cell(a, base, j, 1) == x {
+        if tables::row_cell(a, base, 3, j, 1) == x {
             return true;
         }
         j += 1;
@@ -247,8 +239,8 @@ fn lacks_field(a: &[u32], t: TypeNo, o: TypeNo) -> bool
     let end = a[3] as usize;
     let mut j: usize = 0;
     while j < end {
-        if row_cell(a, 776, j, 1) == t.0 {
-            if !has_field(a, o, FieldNo(row_cell(a, 776, j, 2))) {
+        if tables::row_cell(a, 776, 3, j, 1) == t.0 {
+            if !has_field(a, o, FieldNo(tables::row_cell(a, 776, 3, j, 2))) {
                 return true;
             }
         }

@@ -27,7 +27,7 @@ use Rattle.world.specs.declared.FieldKind.{FieldKind}
 use Rattle.world.specs.declared.FieldKind.the-variants.{Scalar, Objects, Object}
 use Rattle.sizing.specs.Measure.{rowIn, pushed, passedOn}
 use Rattle.world.proofs.Asked.{asks-field, asks-on, asked-field}
-use Rattle.world.proofs.Targets.{world-size, world-shape, world-targets, world-holds, targets-all, targets-done, targets-more, edge-on, ends-closed}
+use Rattle.world.proofs.Targets.{world-size, world-shape, world-targets, world-holds, targets-all, targets-done, targets-more, ends-closed}
 use Rattle.sizing.proofs.Rows.{zeros, zeros-length, zeroed-length, row-same, row-get, row-length, Outside, row-laid}
 use Rattle.sizing.proofs.Rows.{pushed-none, pushed-first, pushed-length, pushed-at, pushed-out}
 
@@ -64,15 +64,6 @@ module _ (g : List ℕ) (u : ℕ) (l : Label) (b x : ℕ) (m₀ : List ℕ) wher
     pub adding-end : cell g 1 ≤ e → m ≡ pushed b x (targetsAt g u l) m₀
     adding-end h =
         sym (a .left ∙ ap (λ (vs : List ℕ). pushed b x vs m) (targets-done g u l (a .from) e (a .edge) h) ∙ pushed-none b x m)
-
--- the edges left become fewer
-pub edges-fewer : (g : List ℕ) (u : ℕ) (l : Label) (e e′ : ℕ) → e < cell g 1 → e′ ≡ edgeFrom g u l (e + 1)
-    → cell g 1 - e′ < cell g 1 - e
-edges-fewer g u l e e′ h f = go (decLt e′ (cell g 1))
-  where
-    go : Dec (e′ < cell g 1) → cell g 1 - e′ < cell g 1 - e
-    go (yes d) = omega (arith, edge-on g u l (e + 1) e′ f d)
-    go (no d) = omega arith
 
 -- ---- the nodes at which entry k at node u goes on
 

@@ -6,6 +6,8 @@ ghost use Rattle.judge.specs.Texts.{texts, lent};
 ghost use Rattle.sodgravel.specs.Calls.{sizedIn, limitedIn, answeredIn, bufferIn, cleared, refusedBy, Measured, Responded};
 use rules::Outcome;
 
+mod exports;
+
 // A refusal at place 0.
 fn refuse(number: u32) -> Outcome
     ensures { λ r. ⌜ r ≡ refusedBy number ⌝ }

@@ -2,20 +2,20 @@
 use Prim.Native.Nat.{ℕ, suc, _+_, _-_, _≤_, _<_}
 use native.Mathlib.Omega.{arith}
 use mathlib.Core.Path.{_≡_, refl, sym, ap, _∙_}
-use mathlib.Core.Bool.{Bool, true, false}
+use mathlib.Core.Bool.{Bool}
 use mathlib.Core.List.{List, [], _∷_}
 use lib.ListN.{length, drop, set, length-set, drop-of-length-le}
 use lib.Seq.{drop-drop, drop-nil}
 use borrow.Author.Tests.{eq-eqb, ne-eqb}
-use Rattle.rules.specs.Text.{Line, fields, isNumber, decimal, leading, rowOf, row}
+use Rattle.rules.specs.Text.{Line, fields, leading, rowOf, row}
 use Rattle.text.specs.declared.Row.{Row as Read}
 use Rattle.text.specs.declared.Num.{Num}
 use Rattle.text.specs.declared.Num.the-variants.{Value, Fault}
-use Rattle.text.specs.Number.{isStop, fieldOf, numberAt, ByteAt}
+use Rattle.text.specs.Number.{fieldOf, numberAt, ByteAt}
 use Rattle.text.specs.Line.{lineAt, rowFrom, unreadRow}
-use Rattle.text.proofs.Tools.{by-test, by-order}
+use Rattle.text.proofs.Tools.{by-order}
 use Rattle.text.proofs.Lines.{line-is}
-use Rattle.text.proofs.Fields.{leftOf, fieldsLeft, fields-split, value-here, fault-here, left-at, ends, first-is}
+use Rattle.text.proofs.Fields.{leftOf, left-drop, fieldsLeft, leading-more, leading-stop, fields-split, value-here, fault-here, left-at, ends, first-is}
 use Rattle.tables.specs.Layout.{laid}
 use Rattle.tables.specs.Fill.{whole, Plain}
 use Rattle.tables.proofs.Laid.{laid-nil, laid-append}
@@ -26,11 +26,6 @@ pub numbersLeft : List ℕ → ℕ → List ℕ
 numbersLeft s i = leading (fieldsLeft (drop i s))
 
 -- ---- all numbers of a line: those behind its letter
-
-left-drop : (bs : List ℕ) → leftOf bs ≡ drop (length (fieldOf bs)) bs
-unfolding leftOf fieldOf
-left-drop [] = refl
-left-drop (b ∷ bs) = by-test (isStop b) (λ e. simp e) (λ e. simp (e, left-drop bs))
 
 one-letter : (f : List ℕ) (fs : List (List ℕ)) (e : Bool) → rowFrom (f ∷ fs) e 1 .next ≡ 1 → (length f ≡ 1) × (rowOf (f ∷ fs) .numbers ≡ leading fs)
 unfolding rowFrom unreadRow
@@ -51,13 +46,6 @@ all-left s at p =
     ap (λ (fs : List (List ℕ)). rowOf fs .numbers) e ∙ o .1 ∙ ap (λ (x : List ℕ). leading (fieldsLeft x)) d
 
 -- ---- one of them
-
-module _ (f : List ℕ) (fs : List (List ℕ)) where
-  leading-more : isNumber f ≡ true → leading (f ∷ fs) ≡ decimal 0 f ∷ leading fs
-  leading-more g = rw (g, leading)
-
-  leading-stop : isNumber f ≡ false → leading (f ∷ fs) ≡ []
-  leading-stop g = rw (g, leading)
 
 -- at position i a tab stands, and behind it the number v, whose field ends at n
 pub record Next (s : List ℕ) (i v n : ℕ) : Type 0 where

@@ -1,4 +1,4 @@
-// Tables in lent work areas: clearing an area, and laying the rows of an accepted text out in it.
+// Tables in lent work areas: clearing an area, laying the rows of an accepted text out in it, and reading a cell.
 ghost use mathlib.Core.Path.{_≡_};
 ghost use Prim.Native.Nat.{_+_, _*_, _-_, _≤_, _<_};
 ghost use mathlib.Core.List.{[], _∷_};
@@ -8,6 +8,7 @@ ghost use Rattle.rules.specs.Schema.{isType};
 ghost use Rattle.rules.proofs.Clean.{Each};
 ghost use Rattle.text.specs.Line.{lineAt};
 ghost use Rattle.tables.specs.Layout.{laid, belongs, width, table, counted, allValues, schemaArea, nodeArea, propertyArea, valueArea, queryArea};
+ghost use Rattle.tables.specs.Read.{cell};
 ghost use Rattle.tables.specs.Fill.{Plain, lettered, cellsOf, valuesIn, queriesIn, SchemaFits, GraphFits};
 
 // Zeroes a whole area.
@@ -19,6 +20,14 @@ pub fn clear(area: &mut [u32])
         area[i] = 0;
         i += 1;
     }
+}
+
+// Cell k of row j of a table whose rows have a width.
+pub fn row_cell(area: &[u32], base: usize, width: usize, j: usize, k: usize) -> u32
+    requires { ⌜ base + width * j + k < length (now area) ⌝ }
+    ensures { λ r. ⌜ r ≡ cell (now (area .entry)) (base + width * j + k) ⌝ }
+{
+    area[base + width * j + k]
 }
 
 // Whether a row with this letter states a type.

@@ -11,7 +11,7 @@ use lib.Seq.{drop-drop}
 use lib.Dec.{eqb}
 use borrow.Author.Tests.{ne-eqb, eqb-true}
 use Rattle.rules.specs.Lists.{isEmpty}
-use Rattle.rules.specs.Text.{tab, newline, onFirstField, fields, decimal, isNumber}
+use Rattle.rules.specs.Text.{tab, newline, onFirstField, fields, decimal, isNumber, leading}
 use Rattle.text.specs.declared.Num.{Num}
 use Rattle.text.specs.declared.Num.the-variants.{Value, Fault}
 use Rattle.text.specs.Number.{isStop, stopIn, fieldOf, numberOf, numberAt, goodPart, ByteAt}
@@ -25,7 +25,7 @@ unfoldable pub leftOf : List ℕ → List ℕ
 leftOf [] = []
 leftOf (b ∷ bs) = cond (isStop b) (b ∷ bs) (leftOf bs)
 
-left-drop : (bs : List ℕ) → leftOf bs ≡ drop (length (fieldOf bs)) bs
+pub left-drop : (bs : List ℕ) → leftOf bs ≡ drop (length (fieldOf bs)) bs
 unfolding leftOf fieldOf
 left-drop [] = refl
 left-drop (b ∷ bs) = by-test (isStop b) (λ e. simp e) (λ e. simp (e, left-drop bs))
@@ -83,6 +83,15 @@ unfolding lineLength leftOf fieldOf
 line-split [] = refl
 line-split (b ∷ bs) =
     by-byte b (λ t n s. simp (s, zero-add)) (λ t n s. simp (s, zero-add)) (λ t n s. simp (n, s) (omega (arith, line-split bs)))
+
+-- ---- the numbers of the fields before the first that is none
+
+module _ (f : List ℕ) (fs : List (List ℕ)) where
+  pub leading-more : isNumber f ≡ true → leading (f ∷ fs) ≡ decimal 0 f ∷ leading fs
+  leading-more g = rw (g, leading)
+
+  pub leading-stop : isNumber f ≡ false → leading (f ∷ fs) ≡ []
+  leading-stop g = rw (g, leading)
 
 -- ---- what reading a number says of the field that stands there
 

@@ -19,7 +19,7 @@ use Rattle.text.specs.Line.{nextAt, padded, badField, isLetter, unreadRo
 use Rattle.text.proofs.Tools.{by-test, by-order, and-false, shift}
 use Rattle.text.proofs.Lines.{bodyOf, isEnded, lineLength, line-is, next-is}
 use Rattle.text.proofs.Fields.{leftOf, fieldsLeft, stop-field, by-byte, fields-split, ended-split, line-split}
-use Rattle.text.proofs.Fields.{value-here, fault-here, left-at, Ends, ends, first-is, not-stop, run-field}
+use Rattle.text.proofs.Fields.{leading-more, leading-stop, value-here, fault-here, left-at, Ends, ends, first-is, not-stop, run-field}
 
 -- ---- the first k numbers, filled one by one
 
@@ -62,12 +62,6 @@ restOf : ℕ → ℕ → List ℕ → List (List ℕ) → Bool → ℕ → Row
 restOf l c ns fs e n = rowWith l c ns (leading fs) (badField (c + 2) fs) e n
 
 module _ (f : List ℕ) (fs : List (List ℕ)) where
-  leading-more : isNumber f ≡ true → leading (f ∷ fs) ≡ decimal 0 f ∷ leading fs
-  leading-more g = rw (g, leading)
-
-  leading-stop : isNumber f ≡ false → leading (f ∷ fs) ≡ []
-  leading-stop g = rw (g, leading)
-
   bad-more : (k : ℕ) → isNumber f ≡ true → badField k (f ∷ fs) ≡ badField (suc k) fs
   unfolding badField
   bad-more k g = ap (λ (t : Bool). cond t (badField (suc k) fs) k) g

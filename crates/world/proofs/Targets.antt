@@ -1,6 +1,7 @@
 -- The World that areas hold, asked row by row. Assumes nothing.
 use Prim.Native.Nat.{ℕ, zero, suc, _+_, _-_, _≤_, _<_}
 use native.Mathlib.Omega.{arith}
+use native.Mathlib.Decide.{decLt}
 use native.Mathlib.Numerals.{add-one}
 use mathlib.Core.Path.{_≡_, refl, sym, ap, _∙_, subst}
 use mathlib.Core.Bool.{Bool, true, false, false≢true}
@@ -159,6 +160,14 @@ module _ (g : List ℕ) (u : ℕ) (l : Label) where
     pub edge-on : e < cell g 1 → j ≤ e
     unfolding edgeFrom
     edge-on h = omega (arith, is, row-on g 1544 (cell g 1) u l j (omega (arith, is)))
+
+  -- the edges left become fewer
+  pub edges-fewer : (e e′ : ℕ) → e < cell g 1 → e′ ≡ edgeFrom g u l (e + 1) → cell g 1 - e′ < cell g 1 - e
+  edges-fewer e e′ h f = go (decLt e′ (cell g 1))
+    where
+      go : Dec (e′ < cell g 1) → cell g 1 - e′ < cell g 1 - e
+      go (yes d) = omega (arith, edge-on (e + 1) e′ f d)
+      go (no d) = omega arith
 
   -- there are no more targets from j on than edges
   pub targets-few : (j : ℕ) → length (targetsFrom g u l j) ≤ cell g 1 - j

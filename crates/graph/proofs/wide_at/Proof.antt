@@ -1,29 +1,15 @@
 -- `graph::wide_at` meets its contract. Assumes nothing.
 use borrow.Author.Needs.{needs}
-use Rattle.tables.specs.Read.{wideAt, cell}
+use Rattle.tables.specs.Read.{cell, wideAt}
 use Rattle.graph.proofs.wide_at.Statement.{statement}
 use Rattle.graph.proofs.wide_at.Tie as tie
 
-mul-result : tie.Need-mul-result
-mul-result c = search needs
-
-add-result : tie.Need-add-result
-add-result c = search needs
-
-add-result-2 : tie.Need-add-result-2
-add-result-2 c = search needs
-
-mul-result-2 : tie.Need-mul-result-2
-mul-result-2 c = search needs
-
-shared-slice-read-result : tie.Need-shared-slice-read-result
-shared-slice-read-result c = search needs
+row-cell-requires : tie.Need-row-cell-requires
+row-cell-requires c = search needs
 
 returns : tie.Need-returns
 unfolding wideAt cell
 returns c = search needs
 
 pub wide-at-spec : {M : Type 1} → statement M
-wide-at-spec =
-    tie.close
-    (tie.spec mul-result add-result add-result-2 mul-result-2 shared-slice-read-result returns)
+wide-at-spec = tie.close (tie.spec row-cell-requires returns)

@@ -4,26 +4,12 @@ use Rattle.tables.specs.Read.{cell, wideAt}
 use Rattle.query.proofs.entry_cell.Statement.{statement}
 use Rattle.query.proofs.entry_cell.Tie as tie
 
-mul-result : tie.Need-mul-result
-mul-result c = search needs
-
-add-result : tie.Need-add-result
-add-result c = search needs
-
-add-result-2 : tie.Need-add-result-2
-add-result-2 c = search needs
-
-mul-result-2 : tie.Need-mul-result-2
-mul-result-2 c = search needs
-
-shared-slice-read-result : tie.Need-shared-slice-read-result
-shared-slice-read-result c = search needs
+row-cell-requires : tie.Need-row-cell-requires
+row-cell-requires c = search needs
 
 returns : tie.Need-returns
 unfolding wideAt cell
 returns c = search needs
 
 pub entry-cell-spec : {M : Type 1} → statement M
-entry-cell-spec =
-    tie.close
-    (tie.spec mul-result add-result add-result-2 mul-result-2 shared-slice-read-result returns)
+entry-cell-spec = tie.close (tie.spec row-cell-requires returns)

@@ -4,7 +4,7 @@ use native.Mathlib.Omega.{arith}
 use borrow.Author.Needs.{needs}
 use Rattle.tables.specs.Read.{cell}
 use Rattle.world.specs.World.{askedAt}
-use Rattle.sizing.proofs.Passing.{edges-fewer}
+use Rattle.world.proofs.Targets.{edges-fewer}
 use Rattle.sizing.proofs.Tallying.{Counted, counted-start, counted-few, counted-end, counted-on}
 use Rattle.sizing.proofs.count_targets.Statement.{statement}
 use Rattle.sizing.proofs.count_targets.Tie as tie

@@ -3,7 +3,8 @@ use Prim.Native.Nat.{_+_, _-_, _<_}
 use lib.ListN.{length}
 use Rattle.tables.specs.Read.{cell}
 use Rattle.world.specs.World.{askedAt}
-use Rattle.sizing.proofs.Passing.{Adding, adding-start, adding-on, adding-end, edges-fewer}
+use Rattle.world.proofs.Targets.{edges-fewer}
+use Rattle.sizing.proofs.Passing.{Adding, adding-start, adding-on, adding-end}
 use native.Mathlib.Omega.{arith}
 use borrow.Author.Needs.{needs}
 use Rattle.sizing.proofs.push_targets.Statement.{statement}

@@ -10,7 +10,7 @@ use Rattle.evaluate.specs.Write.{Room}
 use Rattle.evaluate.specs.Evaluate.{enlisted}
 use Rattle.evaluate.proofs.Write.{Part, part-none, part-same, part-step, part-last}
 use Rattle.evaluate.proofs.Write.{room-one, part-room, part-room-last, wrote-length}
-use Rattle.evaluate.proofs.Steps.{edge-less}
+use Rattle.world.proofs.Targets.{edges-fewer}
 use Rattle.evaluate.proofs.Steps.{objectsFrom, objects-end, objects-more, enlisted-open}
 use Rattle.evaluate.proofs.+entry+listed+object+selection.Proof.Measures.{listed-calls as calls, listed-at as pre}
 use Rattle.evaluate.proofs.listed.Reads.{Post}
@@ -89,7 +89,7 @@ module _ (t : ℕ) where
 
   loop-less : tie.Need-loop-less (calls t) (pre t) Post Inv-loop μ-loop
   unfolding cell
-  loop-less c = edge-less _ _ _ _ _ (c .edge-from2 .ensures) (c .before .before .before .before .before .before .loop-test .taken)
+  loop-less c = edges-fewer _ _ _ _ _ (c .before .before .before .before .before .before .loop-test .taken) (c .edge-from2 .ensures)
 
   loop-again : tie.Need-loop-again (calls t) (pre t) Post Inv-loop μ-loop
   unfolding cell

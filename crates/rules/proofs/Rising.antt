@@ -39,6 +39,17 @@ first-decides f none h k = refl
 first-decides zero (some g) h k = absurd (omega arith)
 first-decides (suc f) (some zero) h k = refl
 first-decides (suc f) (some (suc g)) h k = let e : min f g ≡ f = omega arith in rw e
+
+-- of tests one after another, the first that fails decides; one that passes says nothing
+module _ {A : Type 0} (bad : A → Bool) (step f : ℕ) (x : A) (xs : List A) where
+  abbrev later : Option ℕ
+  later = faultOf (testEach bad step (step + f) xs)
+
+  pub each-stop : 1 ≤ f → bad x ≡ true → faultOf (testEach bad step f (x ∷ xs)) ≡ some f
+  each-stop h e = rw e (first-decides f later h (behind-later f (step + f) later (omega arith) (behind-each bad step (step + f) xs)))
+
+  pub each-on : bad x ≡ false → faultOf (testEach bad step f (x ∷ xs)) ≡ later
+  each-on e = rw e
 
 pub earlier-decides : (f g : ℕ) (a : Option ℕ) → 1 ≤ f → f ≤ g → Behind g a → worse (some f) a ≡ some f
 earlier-decides f g a h l k = first-decides f a h (behind-later f g a l k)

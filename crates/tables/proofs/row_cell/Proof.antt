@@ -1,8 +1,8 @@
--- `schema::row_cell` meets its contract. Assumes nothing.
+-- `tables::row_cell` meets its contract. Assumes nothing.
 use borrow.Author.Needs.{needs}
 use Rattle.tables.specs.Read.{cell}
-use Rattle.schema.proofs.row_cell.Statement.{statement}
-use Rattle.schema.proofs.row_cell.Tie as tie
+use Rattle.tables.proofs.row_cell.Statement.{statement}
+use Rattle.tables.proofs.row_cell.Tie as tie
 
 mul-result : tie.Need-mul-result
 mul-result c = search needs

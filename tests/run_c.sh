@@ -3,9 +3,9 @@
 #
 #     bash tests/run_c.sh
 #
-# Proves and builds the archive where it is missing or older than a source, compiles the example as C99 and as C++11 and
-# tests/c/areas.c, all with warnings as errors, and runs them: on the sample of 01, on every folder of tests/vectors, and under
-# valgrind. Prints one line a step, and stops at the first that fails.
+# Proves and builds the archive where it is missing or older than a source, compiles the example and the README's ten lines as C99
+# and as C++11 and tests/c/areas.c, all with warnings as errors, and runs them: on the sample of 01, on every folder of
+# tests/vectors, and under valgrind. Prints one line a step, and stops at the first that fails.
 set -euo pipefail
 cd "$(dirname "$0")/.."
 archive=target/staticlib/libsodgravel.a
@@ -53,7 +53,15 @@ cpp=(g++ -std=c++11 -O2 -g -Wall -Wextra -Werror -Iinclude -x c++)
 quiet "${c[@]}" examples/c/answer_sample.c "$archive" -o "$work/sample"
 quiet "${cpp[@]}" examples/c/answer_sample.c -x none "$archive" -o "$work/sample_cpp"
 quiet "${c[@]}" tests/c/areas.c "$archive" -o "$work/areas"
-echo 'run_c: the header, the example and the test compile without a warning, as C99 and C++11'
+sed -n '/^```c$/,/^```$/p' README.md | sed '/^```/d' >"$work/ten_lines.c"
+[ "$(wc -l <"$work/ten_lines.c")" -eq 10 ] || fail "README.md has $(wc -l <"$work/ten_lines.c") lines of C, not ten"
+quiet "${c[@]}" "$work/ten_lines.c" "$archive" -o "$work/ten_lines"
+quiet "${cpp[@]}" "$work/ten_lines.c" -x none "$archive" -o "$work/ten_lines_cpp"
+echo "run_c: the header, the example, the test and the README's ten lines compile without a warning, as C99 and C++11"
+
+quiet "$work/ten_lines"
+quiet "$work/ten_lines_cpp"
+echo "run_c: the README's ten lines are answered as they say"
 
 for program in sample sample_cpp; do
     "$work/$program" >"$work/out" || fail "$program ended in an error"

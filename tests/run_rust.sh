@@ -5,8 +5,8 @@
 #
 # Proves and builds the archive where it is missing or older than a source, builds the workspace in rust/ offline, and runs: the
 # unit tests and the vectors of the independent implementation, the test of the declarations against include/sodgravel.h, the
-# example on the sample of 01 and on every folder of tests/vectors, the differential test with its default of 20,000 cases, and
-# 300 further cases of it under valgrind. Prints one line a step, and stops at the first that fails. SODGRAVEL_ARCHIVE and
+# example on the sample of 01 and on every folder of tests/vectors, the README's ten lines, the differential test with its default
+# of 20,000 cases, and 300 further cases of it under valgrind. Prints one line a step, and stops at the first that fails. SODGRAVEL_ARCHIVE and
 # SODGRAVEL_HEADER name another archive and another header.
 set -euo pipefail
 cd "$(dirname "$0")/.."
@@ -52,6 +52,7 @@ else
 fi
 
 quiet cargo_release build --workspace --examples --bins
+quiet cargo_release build -p sodgravel
 echo 'run_rust: the workspace is built, for release and offline'
 
 quiet cargo_release test -p independent
@@ -71,6 +72,13 @@ for folder in tests/vectors/*/; do
 done
 [ "$folders" -eq 164 ] || fail "there are $folders folders in tests/vectors, not 164"
 echo "run_rust: the example prints what is expected on the sample and on $folders folders"
+
+sed -n '/^```rust$/,/^```$/p' README.md | sed '/^```/d' >"$work/ten_lines.rs"
+[ "$(wc -l <"$work/ten_lines.rs")" -eq 10 ] || fail "README.md has $(wc -l <"$work/ten_lines.rs") lines of Rust, not ten"
+quiet rustc --edition 2021 -D warnings --extern sodgravel=rust/target/release/libsodgravel.rlib "$work/ten_lines.rs" -o "$work/ten_lines"
+"$work/ten_lines" >"$work/out" || fail "the README's ten lines end in an error"
+printf 'ok\t2\t1\nL\t0\nV\t7\n' | cmp - "$work/out" || fail "the README's ten lines print something else than they say"
+echo "run_rust: the README's ten lines are answered as they say"
 
 differential=rust/target/release/differential
 quiet "$differential"

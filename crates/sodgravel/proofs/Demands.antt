@@ -25,11 +25,12 @@ use Rattle.rules.proofs.Outcomes.SizeCase.{accepts as sizes, refuses as refuses
 use Rattle.rules.proofs.Outcomes.AnswerCase.{accepts as fits, overflows, refuses as refusesAnswer}
 use Rattle.rules.proofs.Unique.{sizing-meets, answering-meets}
 use Rattle.judge.specs.Texts.{workAreas}
-use Rattle.sodgravel.specs.Calls.{areasOf, anyShort, sizedIn, answeredIn, bufferIn, cleared}
+use Rattle.response.specs.Calls.{areasOf, anyShort, sizedIn, answeredIn, bufferIn}
+use Rattle.sodgravel.specs.Cleared.{cleared}
 use Rattle.sodgravel.specs.Ruled.{RulesMet}
 use Rattle.sodgravel.specs.Demands.{Given, Left, AreasEnsured, SizeEnsured, AnswerEnsured, areasIn, shortIn, areasLeft}
 use Rattle.sodgravel.specs.Demands.{Refused, TooLarge, Demand1, Demand2, Demand3}
-use Rattle.sodgravel.proofs.Telling.{unwritten}
+use Rattle.response.proofs.Telling.{unwritten}
 use Rattle.sodgravel.proofs.Rules.{passed-exactly, answer-passed-exactly, Fixes, place-fixed, checks-fixed, answer-checks-fixed}
 
 -- ---- that they are met

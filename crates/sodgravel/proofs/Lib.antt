@@ -1,5 +1,3 @@
-pub mod Passing
-pub mod Ready
-pub mod Telling
+pub mod Clearing
 pub mod Rules
 pub mod Demands

@@ -25,7 +25,7 @@ use Rattle.rules.proofs.Clean.{Each, whole-none}
 use Rattle.rules.proofs.Places.{Passes, passes-at, passed-tail, place-is-first}
 use Rattle.rules.proofs.Outcomes.{answer-checks-rise}
 use Rattle.rules.proofs.Single.{no-fork-met}
-use Rattle.sodgravel.proofs.Passing.{_then_}
+use Rattle.response.proofs.Passing.{_then_}
 use Rattle.sodgravel.specs.Ruled.{RulesMet, FormPlace, StepPlace, PlaceFixed, at-1, at-2, at-40}
 use Rattle.sodgravel.specs.Ruled.{at-10, at-11, at-12, at-13, at-14, at-15, at-16}
 use Rattle.sodgravel.specs.Ruled.{at-20, at-21, at-22, at-23, at-24, at-25, at-26, at-27}

@@ -18,7 +18,8 @@ use Rattle.rules.specs.declared.Outcome.{Outcome}
 use Rattle.rules.proofs.Visited.{Listed}
 use Rattle.rules.proofs.Order.{Ascends, NoPairTwice}
 use Rattle.judge.specs.Texts.{Lent}
-use Rattle.sodgravel.specs.Calls.{areasOf, anyShort, sizedIn, answeredIn, bufferIn, cleared}
+use Rattle.response.specs.Calls.{areasOf, anyShort, sizedIn, answeredIn, bufferIn}
+use Rattle.sodgravel.specs.Cleared.{cleared}
 use Rattle.sodgravel.specs.Ruled.{RulesMet, PlaceFixed}
 
 -- ---- what is given, and what is left

@@ -2,7 +2,8 @@
 // length. Each call is the one of its name, with its contract.
 ghost use mathlib.Core.Path.{_≡_};
 ghost use Rattle.judge.specs.Texts.{texts, lent};
-ghost use Rattle.sodgravel.specs.Calls.{sizedIn, answeredIn, bufferIn, cleared};
+ghost use Rattle.response.specs.Calls.{sizedIn, answeredIn, bufferIn};
+ghost use Rattle.sodgravel.specs.Cleared.{cleared};
 use rules::Outcome;
 
 // `size`, under its C name.

@@ -1,8 +1,8 @@
 -- `sodgravel::answer` meets its contract: the outcome is that of `respond`, and every area is cleared at the length it had. Assumes nothing.
 use mathlib.Core.Path.{_∙_}
 use Rattle.judge.specs.Texts.{lent}
-use Rattle.sodgravel.proofs.Passing.{_then_}
-use Rattle.sodgravel.proofs.Telling.{cleared-as}
+use Rattle.response.proofs.Passing.{_then_}
+use Rattle.sodgravel.proofs.Clearing.{cleared-as}
 use Rattle.sodgravel.proofs.answer.Statement.{statement}
 use Rattle.sodgravel.proofs.answer.Tie as tie
 

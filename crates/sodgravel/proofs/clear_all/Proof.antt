@@ -1,7 +1,7 @@
 -- `sodgravel::clear_all` meets its contract: each area is cleared by its own call. Assumes nothing.
 use borrow.Author.Needs.{needs}
-use Rattle.sodgravel.specs.Calls.{cleared}
-use Rattle.sodgravel.proofs.Passing.{_then_}
+use Rattle.sodgravel.specs.Cleared.{cleared}
+use Rattle.response.proofs.Passing.{_then_}
 use Rattle.sodgravel.proofs.clear_all.Statement.{statement}
 use Rattle.sodgravel.proofs.clear_all.Tie as tie
 

@@ -1,8 +1,8 @@
 -- `sodgravel::size` meets its contract: the outcome is that of `measure`, and every area is cleared at the length it had. Assumes nothing.
 use mathlib.Core.Path.{_∙_}
 use Rattle.judge.specs.Texts.{lent}
-use Rattle.sodgravel.proofs.Passing.{_then_}
-use Rattle.sodgravel.proofs.Telling.{cleared-as}
+use Rattle.response.proofs.Passing.{_then_}
+use Rattle.sodgravel.proofs.Clearing.{cleared-as}
 use Rattle.sodgravel.proofs.size.Statement.{statement}
 use Rattle.sodgravel.proofs.size.Tie as tie
 

@@ -6,7 +6,7 @@ use mathlib.Core.Bool.{Bool, true, false}
 use mathlib.Core.List.{List, [], _∷_, _++_}
 use mathlib.Core.Option.{Option, none, some}
 use lib.Dec.{leb}
-use lib.ListN.{length, take, drop, replicate}
+use lib.ListN.{length, take, drop}
 use borrow.Author.Tests.{lt-ltb, le-ltb, leb-true, leb-false, le-leb, lt-leb}
 use Rattle.rules.specs.Search.{spot}
 use Rattle.rules.specs.Tree.{Entry, siblings}
@@ -31,9 +31,9 @@ use Rattle.sizing.specs.declared.Tally.{Tally}
 use Rattle.sizing.specs.Measure.{measured}
 use Rattle.evaluate.specs.Evaluate.{selected}
 use Rattle.evaluate.specs.Write.{Room, Wrote}
-use Rattle.sodgravel.specs.Calls.{anyShort, sizedIn, limitedIn, answeredIn, bufferIn, cleared, refusedBy, Measured, Responded}
-use Rattle.sodgravel.proofs.Passing.{rows-short, rows-long, texts-long, passed-all, judged-none}
-use Rattle.sodgravel.proofs.Ready.{worldIn, rootIn, Readable, readable}
+use Rattle.response.specs.Calls.{anyShort, sizedIn, limitedIn, answeredIn, bufferIn, refusedBy, Measured, Responded}
+use Rattle.response.proofs.Passing.{rows-short, rows-long, texts-long, passed-all, judged-none}
+use Rattle.response.proofs.Ready.{worldIn, rootIn, Readable, readable}
 
 -- ---- the room
 
@@ -71,12 +71,6 @@ module _ (room : ℕ) (buffer : List ℕ) (o : Outcome) where
 
   within-same : limitedIn room buffer o .number ≡ 0 → o ≡ limitedIn room buffer o
   within-same z = unlimited (le-leb (o .size) k (within-size z))
-
--- ---- zeroing depends on the length alone
-
-pub cleared-as : (a b c : List ℕ) → c ≡ cleared b → length b ≡ length a → c ≡ cleared a
-unfolding cleared
-cleared-as a b c e h = e ∙ ap (λ (n : ℕ). replicate n 0) h
 
 -- ---- a refusal writes nothing
 

@@ -1,10 +1,10 @@
--- What the public calls return, and what they leave in all that they were lent. Assumes nothing.
+-- What the calls return, and what they leave in the response buffer. Assumes nothing.
 use Prim.Native.Nat.{ℕ}
 use mathlib.Core.Path.{_≡_}
 use mathlib.Core.Bool.{Bool}
 use mathlib.Core.List.{List, [], _∷_, _++_}
 use Rattle.rules.specs.Search.{spot}
-use Rattle.rules.specs.Answer.{Texts, Area, tooShort, sized, answered, bufferAfter, zeroed, refused, fitted, space}
+use Rattle.rules.specs.Answer.{Texts, Area, tooShort, sized, answered, bufferAfter, refused, fitted, space}
 use Rattle.rules.specs.declared.Outcome.{Outcome}
 use Rattle.judge.specs.Texts.{Lent, workAreas, Holding}
 
@@ -25,10 +25,6 @@ answeredIn w m x room buffer = answered (anyShort w m) x room buffer
 
 unfoldable pub bufferIn : Lent → List ℕ → Texts → ℕ → List ℕ → List ℕ
 bufferIn w m x room buffer = bufferAfter (anyShort w m) x room buffer
-
--- "every work area holds zeros only"
-unfoldable pub cleared : List ℕ → List ℕ
-cleared held = zeroed held
 
 -- a refusal at place 0
 unfoldable pub refusedBy : ℕ → Outcome

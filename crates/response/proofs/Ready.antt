@@ -38,7 +38,7 @@ use Rattle.sizing.specs.Measure.{QuerySteps}
 use Rattle.evaluate.specs.Evaluate.{QueryLabelled}
 use Rattle.world.proofs.Targets.{closed-ends}
 use Rattle.world.proofs.Asked.{asks-field, entries-length, entries-at}
-use Rattle.sodgravel.proofs.Passing.{passed-all, areas-long}
+use Rattle.response.proofs.Passing.{passed-all, areas-long}
 
 -- The World and the query node that the areas hold; of the values' area the needed part is read.
 abbrev pub worldIn : Lent → World

@@ -1,13 +1,13 @@
--- `sodgravel::respond` meets its contract: a room that is too large is 1, a refusal by the checks or for size stands, else the response is
+-- `response::respond` meets its contract: a room that is too large is 1, a refusal by the checks or for size stands, else the response is
 -- written. Assumes nothing.
 use Prim.Native.Nat.{_≤_}
 use native.Mathlib.Omega.{arith}
 use mathlib.Core.Path.{refl}
 use lib.Seq.{length-take-le}
 use Rattle.judge.specs.Texts.{lent}
-use Rattle.sodgravel.proofs.Telling.{responded-large, responded-refused, still-long, still-readable, has-room, responded-written}
-use Rattle.sodgravel.proofs.respond.Statement.{statement}
-use Rattle.sodgravel.proofs.respond.Tie as tie
+use Rattle.response.proofs.Telling.{responded-large, responded-refused, still-long, still-readable, has-room, responded-written}
+use Rattle.response.proofs.respond.Statement.{statement}
+use Rattle.response.proofs.respond.Tie as tie
 
 -- from the end to the limit; from there to the measure, and to the test of the room
 abbrev limiting : tie.After-slice-known14 → tie.After-limit

@@ -1,13 +1,13 @@
--- `sodgravel::measure` meets its contract: short rows, a refusal of the texts, or the sizing of the tables. Assumes nothing.
+-- `response::measure` meets its contract: short rows, a refusal of the texts, or the sizing of the tables. Assumes nothing.
 use native.Mathlib.Omega.{arith}
 use mathlib.Core.Path.{refl}
 use lib.Seq.{length-take-le}
 use Rattle.judge.specs.Texts.{lent}
-use Rattle.sodgravel.proofs.Passing.{areas-long}
-use Rattle.sodgravel.proofs.Ready.{readable}
-use Rattle.sodgravel.proofs.Telling.{measured-short, measured-refused, measured-told}
-use Rattle.sodgravel.proofs.measure.Statement.{statement}
-use Rattle.sodgravel.proofs.measure.Tie as tie
+use Rattle.response.proofs.Passing.{areas-long}
+use Rattle.response.proofs.Ready.{readable}
+use Rattle.response.proofs.Telling.{measured-short, measured-refused, measured-told}
+use Rattle.response.proofs.measure.Statement.{statement}
+use Rattle.response.proofs.measure.Tie as tie
 
 -- from the test of the verdict to the judging, and to the test of the rows; and from the end to the test of the verdict
 abbrev judging : tie.After-struct-known → tie.After-judge

@@ -1,10 +1,10 @@
--- `sodgravel::limit` meets its contract. Assumes nothing.
+-- `response::limit` meets its contract. Assumes nothing.
 use mathlib.Core.Path.{sym, _∙_}
 use borrow.Author.Needs.{needs}
 use borrow.Author.Tests.{not-true, not-false}
-use Rattle.sodgravel.proofs.Telling.{limited, unlimited}
-use Rattle.sodgravel.proofs.limit.Statement.{statement}
-use Rattle.sodgravel.proofs.limit.Tie as tie
+use Rattle.response.proofs.Telling.{limited, unlimited}
+use Rattle.response.proofs.limit.Statement.{statement}
+use Rattle.response.proofs.limit.Tie as tie
 
 fits-requires : tie.Need-fits-requires
 fits-requires c κs = search needs

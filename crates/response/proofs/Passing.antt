@@ -18,7 +18,7 @@ use Rattle.checks.specs.declared.Verdict.{Verdict}
 use Rattle.checks.specs.Verdict.{refusedBy, judged, textChecks}
 use Rattle.judge.specs.Texts.{Lent, workAreas, tooShortOf, Judged}
 use Rattle.judge.proofs.Texts.{Passes, Long, long-areas, accepted-passes}
-use Rattle.sodgravel.specs.Calls.{areasOf, anyShort}
+use Rattle.response.specs.Calls.{areasOf, anyShort}
 
 -- what holds of the first of several, and what holds of those behind it
 infixr 20 _then_

@@ -9,7 +9,7 @@ use Rattle.rules.specs.declared.Outcome.{Outcome}
 use Rattle.rules.proofs.Outcomes.{AnswerCase, accepts, overflows, refuses, answer-case}
 use Rattle.rules.proofs.Unique.{buffer-length}
 use Rattle.judge.specs.Texts.{Lent}
-use Rattle.sodgravel.specs.Calls.{areasOf, anyShort, answeredIn, bufferIn}
+use Rattle.response.specs.Calls.{areasOf, anyShort, answeredIn, bufferIn}
 
 module _ (w : Lent) (m : List ℕ) (x : Texts) (room : ℕ) (buffer : List ℕ) where
   accepted-size : AnswerCase (anyShort w m) x room buffer → answered (anyShort w m) x room buffer .number ≡ 0

@@ -322,7 +322,8 @@ def write_table(tried):
     head, _, tail = open(TABLE, encoding="utf-8").read().partition(HEADING)
     sections = {part.split("\n")[0]: "### " + part.rstrip() + "\n" for part in tail.split("### ")[1:]}
     sections.update({crate: section(crate, edits) for crate, edits in tried.items()})
-    parts = [head + HEADING + tail.partition("### ")[0].rstrip() + "\n"] + [sections[crate] for crate in libraries() if crate in sections]
+    lead = head + HEADING + tail.partition("### ")[0].rstrip() + "\n"
+    parts = [lead] + [sections[crate] for crate in libraries() if crate in sections]
     open(TABLE, "w", encoding="utf-8").write("\n".join(parts))
 
 

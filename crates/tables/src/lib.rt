@@ -22,7 +22,7 @@ pub fn clear(area: &mut [u32])
     }
 }
 
-// Cell k of row j of a table whose rows have a width.
+// Cell k of row j of a table whose rows are `width` numbers wide.
 pub fn row_cell(area: &[u32], base: usize, width: usize, j: usize, k: usize) -> u32
     requires { ⌜ base + width * j + k < length (now area) ⌝ }
     ensures { λ r. ⌜ r ≡ cell (now (area .entry)) (base + width * j + k) ⌝ }

@@ -78,6 +78,7 @@ enum sodgravel_needed {
     SODGRAVEL_NODES_AREA = 15880,      /* uint32_t: nodes and edges */
     SODGRAVEL_PROPERTIES_AREA = 14344, /* uint32_t: properties */
     SODGRAVEL_VALUES_AREA = 8200,      /* uint32_t: property values */
+    SODGRAVEL_INDEX_AREA = 3072,       /* uint32_t: of each node its edges and its properties */
     SODGRAVEL_QUERY_AREA = 3592,       /* uint32_t: the query's entries */
     SODGRAVEL_ROWS_AREA = 8192         /* uint64_t: the rows of multiplicities */
 };
@@ -120,6 +121,7 @@ sodgravel_outcome sodgravel_size(
     uint32_t *nodes_area, size_t nodes_area_length,
     uint32_t *properties_area, size_t properties_area_length,
     uint32_t *values_area, size_t values_area_length,
+    uint32_t *index_area, size_t index_area_length,
     uint32_t *query_area, size_t query_area_length,
     uint64_t *rows_area, size_t rows_area_length);
 
@@ -135,6 +137,7 @@ sodgravel_outcome sodgravel_answer(
     uint32_t *nodes_area, size_t nodes_area_length,
     uint32_t *properties_area, size_t properties_area_length,
     uint32_t *values_area, size_t values_area_length,
+    uint32_t *index_area, size_t index_area_length,
     uint32_t *query_area, size_t query_area_length,
     uint64_t *rows_area, size_t rows_area_length,
     uint32_t room,

@@ -125,7 +125,7 @@ def rooms():
     for room in (WHOLE + 1, 999999999):
         yield Case("room %d" % room, SAMPLE, room=room, told=(1, 0, 0, 0))
     yield Case("room and texts at fault", (b"X", b"X", b"X"), room=WHOLE + 1, told=(1, 0, 0, 0))
-    yield Case("room and an area at fault", SAMPLE, room=WHOLE + 1, areas=(0, 0, 0, 0, 0, 0), told=(1, 0, 0, 0))
+    yield Case("room and an area at fault", SAMPLE, room=WHOLE + 1, areas=(0,) * len(NEEDED), told=(1, 0, 0, 0))
     yield Case("sizing asks no room", SAMPLE, call=SIZE, room=WHOLE + 1, buffer=0, told=(0, 0, 18, 9))
     for buffer, number in ((0, 50), (17, 50), (18, 0), (19, 0), (WHOLE + 1, 0)):
         yield Case("buffer of %d" % buffer, SAMPLE, buffer=buffer, told=(number, 0, 18, 9))
@@ -141,8 +141,8 @@ def areas():
             for more, told in ((-1, (2, 0, 0, 0)), (1, (0, 0, 18, 9))):
                 lent = tuple(n + (more if k == i else 0) for k, n in enumerate(NEEDED))
                 yield Case("area %d, %+d, call %d" % (i, more, call), SAMPLE, call=call, areas=lent, told=told)
-    yield Case("no areas", SAMPLE, areas=(0, 0, 0, 0, 0, 0), told=(2, 0, 0, 0))
-    yield Case("areas and texts at fault", (b"X", b"X", b"X"), areas=(0, 0, 0, 0, 0, 0), told=(2, 0, 0, 0))
+    yield Case("no areas", SAMPLE, areas=(0,) * len(NEEDED), told=(2, 0, 0, 0))
+    yield Case("areas and texts at fault", (b"X", b"X", b"X"), areas=(0,) * len(NEEDED), told=(2, 0, 0, 0))
     longer = tuple(n + 1 for n in NEEDED)
     for filling in (0, 1, 4, 70, 999999999):
         yield Case("longer areas full of %d" % filling, SAMPLE, areas=longer, buffer=40, filling=filling, told=(0, 0, 18, 9))

@@ -22,6 +22,7 @@ static uint32_t schema_area[SODGRAVEL_SCHEMA_AREA];
 static uint32_t nodes_area[SODGRAVEL_NODES_AREA];
 static uint32_t properties_area[SODGRAVEL_PROPERTIES_AREA];
 static uint32_t values_area[SODGRAVEL_VALUES_AREA];
+static uint32_t index_area[SODGRAVEL_INDEX_AREA];
 static uint32_t query_area[SODGRAVEL_QUERY_AREA];
 static uint64_t rows_area[SODGRAVEL_ROWS_AREA];
 
@@ -91,7 +92,7 @@ int main(int count, char **words)
     outcome = sodgravel_answer(
         schema.bytes, schema.length, graph.bytes, graph.length, query.bytes, query.length,
         schema_area, SODGRAVEL_SCHEMA_AREA, nodes_area, SODGRAVEL_NODES_AREA,
-        properties_area, SODGRAVEL_PROPERTIES_AREA, values_area, SODGRAVEL_VALUES_AREA,
+        properties_area, SODGRAVEL_PROPERTIES_AREA, values_area, SODGRAVEL_VALUES_AREA, index_area, SODGRAVEL_INDEX_AREA,
         query_area, SODGRAVEL_QUERY_AREA, rows_area, SODGRAVEL_ROWS_AREA,
         SODGRAVEL_MAXIMUM_ROOM, response, SODGRAVEL_MAXIMUM_ROOM);
 

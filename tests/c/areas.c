@@ -10,11 +10,11 @@
 #include <stdlib.h>
 #include <string.h>
 
-#define AREAS 6
-#define ROWS 5 /* the one area of uint64_t */
+#define AREAS 7
+#define ROWS 6 /* the one area of uint64_t */
 
 static const size_t needed[AREAS] = { SODGRAVEL_SCHEMA_AREA, SODGRAVEL_NODES_AREA, SODGRAVEL_PROPERTIES_AREA,
-    SODGRAVEL_VALUES_AREA, SODGRAVEL_QUERY_AREA, SODGRAVEL_ROWS_AREA };
+    SODGRAVEL_VALUES_AREA, SODGRAVEL_INDEX_AREA, SODGRAVEL_QUERY_AREA, SODGRAVEL_ROWS_AREA };
 
 /* The sample of 01, and its response. */
 #define SCHEMA \
@@ -124,12 +124,12 @@ static void make(const call *c, int answering, uint32_t number, uint32_t place, 
 
     if (answering)
         got = sodgravel_answer(texts[0], lengths[0], texts[1], lengths[1], texts[2], lengths[2], area[0], c->lengths[0],
-            area[1], c->lengths[1], area[2], c->lengths[2], area[3], c->lengths[3], area[4], c->lengths[4], rows,
-            c->lengths[ROWS], c->room, response, c->response_length);
+            area[1], c->lengths[1], area[2], c->lengths[2], area[3], c->lengths[3], area[4], c->lengths[4], area[5],
+            c->lengths[5], rows, c->lengths[ROWS], c->room, response, c->response_length);
     else
         got = sodgravel_size(texts[0], lengths[0], texts[1], lengths[1], texts[2], lengths[2], area[0], c->lengths[0],
-            area[1], c->lengths[1], area[2], c->lengths[2], area[3], c->lengths[3], area[4], c->lengths[4], rows,
-            c->lengths[ROWS]);
+            area[1], c->lengths[1], area[2], c->lengths[2], area[3], c->lengths[3], area[4], c->lengths[4], area[5],
+            c->lengths[5], rows, c->lengths[ROWS]);
     made++;
 
     same_outcome(c, got, number, place, size, visits);

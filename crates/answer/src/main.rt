@@ -100,6 +100,7 @@ fn answer_texts(schema: &[u8], graph: &[u8], query: &[u8]) {
     let mut g = [0u32; 15880];
     let mut p = [0u32; 14344];
     let mut v = [0u32; 8200];
+    let mut ix = [0u32; 3072];
     let mut q = [0u32; 3592];
     let mut m = [0u64; 8192];
     let mut buffer = [0u32; ROOM];
@@ -111,6 +112,7 @@ fn answer_texts(schema: &[u8], graph: &[u8], query: &[u8]) {
         &mut g,
         &mut p,
         &mut v,
+        &mut ix,
         &mut q,
         &mut m,
         ROOM as u32,

@@ -1,11 +1,11 @@
 // Runs the public calls on the cases that standard input has, and writes a line for each. No case stands in the code:
 // tests/make_cases.py writes the cases (`stdin`), and what 01's rules ask of them (`stdout`) by way of tests/reference.py.
 //
-// Every number of the input is nine digits and one further byte. The first says how many cases follow. A case has ten numbers:
-// the call (0 sizes, 1 answers), the room, the number that fills areas and buffer before the call, the lengths of the six areas
+// Every number of the input is nine digits and one further byte. The first says how many cases follow. A case has eleven numbers:
+// the call (0 sizes, 1 answers), the room, the number that fills areas and buffer before the call, the lengths of the seven areas
 // and of the buffer; then, for each of the three texts, its length and its bytes.
 //
-// A line has the case's number, from 1 on; refusal number, place, size and visits; how many numbers of each of the six areas are
+// A line has the case's number, from 1 on; refusal number, place, size and visits; how many numbers of each of the seven areas are
 // not zero after the call; and the digest of the buffer after the call.
 ghost use Prim.Native.Nat.{_≤_};
 ghost use lib.ListN.{length};
@@ -118,6 +118,17 @@ fn print_outcome(outcome: Outcome) {
     print_field(outcome.visits as u64);
 }
 
+// Writes how many numbers of each area are not zero.
+fn print_left(a: &[u32], g: &[u32], p: &[u32], v: &[u32], ix: &[u32], q: &[u32], m: &[u64]) {
+    print_field(count_nonzero(a) as u64);
+    print_field(count_nonzero(g) as u64);
+    print_field(count_nonzero(p) as u64);
+    print_field(count_nonzero(v) as u64);
+    print_field(count_nonzero(ix) as u64);
+    print_field(count_nonzero(q) as u64);
+    print_field(count_wide_nonzero(m) as u64);
+}
+
 // Reads the three texts, and makes the call on them.
 fn call_on_texts(
     call: u32,
@@ -126,6 +137,7 @@ fn call_on_texts(
     g: &mut [u32],
     p: &mut [u32],
     v: &mut [u32],
+    ix: &mut [u32],
     q: &mut [u32],
     m: &mut [u64],
     buffer: &mut [u32],
@@ -140,9 +152,9 @@ fn call_on_texts(
     let graph = &graph_text[..graph_length];
     let query = &query_text[..query_length];
     if call == 0 {
-        return sodgravel::size(schema, graph, query, a, g, p, v, q, m);
+        return sodgravel::size(schema, graph, query, a, g, p, v, ix, q, m);
     }
-    sodgravel::answer(schema, graph, query, a, g, p, v, q, m, room, buffer)
+    sodgravel::answer(schema, graph, query, a, g, p, v, ix, q, m, room, buffer)
 }
 
 // Runs a case in areas and a buffer that are lent, and writes its line but for the case's number.
@@ -153,17 +165,13 @@ fn run_in(
     g: &mut [u32],
     p: &mut [u32],
     v: &mut [u32],
+    ix: &mut [u32],
     q: &mut [u32],
     m: &mut [u64],
     buffer: &mut [u32],
 ) {
-    print_outcome(call_on_texts(call, room, a, g, p, v, q, m, buffer));
-    print_field(count_nonzero(a) as u64);
-    print_field(count_nonzero(g) as u64);
-    print_field(count_nonzero(p) as u64);
-    print_field(count_nonzero(v) as u64);
-    print_field(count_nonzero(q) as u64);
-    print_field(count_wide_nonzero(m) as u64);
+    print_outcome(call_on_texts(call, room, a, g, p, v, ix, q, m, buffer));
+    print_left(a, g, p, v, ix, q, m);
     print_field(digest(buffer));
     io::write_all(STDOUT_FILENO, b"\n");
 }
@@ -177,6 +185,7 @@ fn run_case() {
     let mut g = [filling; 15881];
     let mut p = [filling; 14345];
     let mut v = [filling; 8201];
+    let mut ix = [filling; 3073];
     let mut q = [filling; 3593];
     let mut m = [filling as u64; 8193];
     let mut buffer = [filling; 16385];
@@ -184,6 +193,7 @@ fn run_case() {
     let g_length = read_length(&g);
     let p_length = read_length(&p);
     let v_length = read_length(&v);
+    let ix_length = read_length(&ix);
     let q_length = read_length(&q);
     let m_length = read_wide_length(&m);
     let buffer_length = read_length(&buffer);
@@ -194,6 +204,7 @@ fn run_case() {
         &mut g[..g_length],
         &mut p[..p_length],
         &mut v[..v_length],
+        &mut ix[..ix_length],
         &mut q[..q_length],
         &mut m[..m_length],
         &mut buffer[..buffer_length],

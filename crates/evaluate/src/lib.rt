@@ -5,6 +5,7 @@ ghost use mathlib.Core.List.{[], _∷_};
 ghost use lib.ListN.{length, getD};
 ghost use Rattle.rules.specs.Eval.{value};
 ghost use Rattle.tables.specs.Read.{cell, valuesAt};
+ghost use Rattle.index.specs.Index.{Linked};
 ghost use Rattle.graph.specs.Held.{PropertiesHeld};
 ghost use Rattle.query.specs.Entries.{QueryHeld};
 ghost use Rattle.world.specs.World.{worldAt, WorldHeld, askedAt, lookupAt, foundBy};
@@ -54,6 +55,7 @@ pub fn put_values(p: &[u32], v: &[u32], j: usize, out: &mut [u32], at: usize) ->
 pub fn put_scalar(
     p: &[u32],
     v: &[u32],
+    ix: &[u32],
     q: &[u32],
     k: usize,
     u: u32,
@@ -62,12 +64,13 @@ pub fn put_scalar(
 ) -> usize
     requires { ⌜ PropertiesHeld (now p) (now v) ⌝ }
     requires { ⌜ length (now v) ≤ 8200 ⌝ }
+    requires { ⌜ Linked (now p) 8 (cell (now p) 0) (now ix) 1536 ⌝ }
     requires { ⌜ QueryHeld (now q) ⌝ }
     requires { ⌜ k < cell (now q) 0 ⌝ }
     requires { ⌜ Room (now out) at (value (foundBy (now p) (now v) (lookupAt (now p) u (askedAt (now q) k)))) ⌝ }
     ensures { λ r. ⌜ Wrote (now (out .entry)) at (value (foundBy (now (p .entry)) (now (v .entry)) (lookupAt (now (p .entry)) u (askedAt (now (q .entry)) k)))) (now (out .exit)) r ⌝ }
 {
-    let world::Property::Row(j) = world::lookup(p, q, k, u) else {
+    let world::Property::Row(j) = world::lookup(p, ix, q, k, u) else {
         return put(out, at, NULL);
     };
     if world::is_sequence(p, j) {
@@ -97,6 +100,7 @@ pub fn selection(
     g: &[u32],
     p: &[u32],
     v: &[u32],
+    ix: &[u32],
     q: &[u32],
     i: usize,
     d: u32,
@@ -104,7 +108,7 @@ pub fn selection(
     out: &mut [u32],
     at: usize,
 ) -> usize
-    requires { ⌜ WorldHeld (now a) (now g) (now p) (now v) ⌝ }
+    requires { ⌜ WorldHeld (now a) (now g) (now p) (now v) (now ix) ⌝ }
     requires { ⌜ QueryLabelled (now q) ⌝ }
     requires { ⌜ Room (now out) at (selected (worldAt (now a) (now g) (now p) (now v)) (now q) i d u) ⌝ }
     ensures { λ r. ⌜ Wrote (now (out .entry)) at (selected (worldAt (now (a .entry)) (now (g .entry)) (now (p .entry)) (now (v .entry))) (now (q .entry)) i d u) (now (out .exit)) r ⌝ }
@@ -118,7 +122,7 @@ pub fn selection(
             return pos;
         }
         if e == d {
-            pos = entry(a, g, p, v, q, k, u, out, pos);
+            pos = entry(a, g, p, v, ix, q, k, u, out, pos);
         }
         k += 1;
     }
@@ -131,13 +135,14 @@ pub fn entry(
     g: &[u32],
     p: &[u32],
     v: &[u32],
+    ix: &[u32],
     q: &[u32],
     k: usize,
     u: u32,
     out: &mut [u32],
     at: usize,
 ) -> usize
-    requires { ⌜ WorldHeld (now a) (now g) (now p) (now v) ⌝ }
+    requires { ⌜ WorldHeld (now a) (now g) (now p) (now v) (now ix) ⌝ }
     requires { ⌜ QueryLabelled (now q) ⌝ }
     requires { ⌜ k < cell (now q) 0 ⌝ }
     requires { ⌜ Room (now out) at (entered (worldAt (now a) (now g) (now p) (now v)) (now q) k u) ⌝ }
@@ -150,6 +155,7 @@ pub fn entry(
                 g,
                 p,
                 v,
+                ix,
                 q,
                 k + 1,
                 query::entry_cell(q, k, 2) + 1,
@@ -164,15 +170,15 @@ pub fn entry(
     let kind = world::shape(a, g, u, FieldNo(query::entry_cell(q, k, 4)));
     match kind {
         world::FieldKind::Scalar => {
-            return put_scalar(p, v, q, k, u, out, after);
+            return put_scalar(p, v, ix, q, k, u, out, after);
         }
         world::FieldKind::Objects => {
-            return listed(a, g, p, v, q, k, u, out, after);
+            return listed(a, g, p, v, ix, q, k, u, out, after);
         }
         world::FieldKind::Object => {
-            let e = world::edge_from(g, q, k, u, 0);
+            let e = world::first_edge(g, ix, q, k, u);
             if e < g[1] as usize {
-                return object(a, g, p, v, q, k, world::target(g, e), out, after);
+                return object(a, g, p, v, ix, q, k, world::target(g, e), out, after);
             }
             return put(out, after, NULL);
         }
@@ -185,13 +191,14 @@ fn listed(
     g: &[u32],
     p: &[u32],
     v: &[u32],
+    ix: &[u32],
     q: &[u32],
     k: usize,
     u: u32,
     out: &mut [u32],
     at: usize,
 ) -> usize
-    requires { ⌜ WorldHeld (now a) (now g) (now p) (now v) ⌝ }
+    requires { ⌜ WorldHeld (now a) (now g) (now p) (now v) (now ix) ⌝ }
     requires { ⌜ QueryLabelled (now q) ⌝ }
     requires { ⌜ k < cell (now q) 0 ⌝ }
     requires { ⌜ Room (now out) at (enlisted (worldAt (now a) (now g) (now p) (now v)) (now q) k u) ⌝ }
@@ -199,10 +206,10 @@ fn listed(
 {
     let n = g[1] as usize;
     let mut pos = put(out, at, OPEN_LIST);
-    let mut e = world::edge_from(g, q, k, u, 0);
+    let mut e = world::first_edge(g, ix, q, k, u);
     while e < n {
-        pos = object(a, g, p, v, q, k, world::target(g, e), out, pos);
-        e = world::edge_from(g, q, k, u, e + 1);
+        pos = object(a, g, p, v, ix, q, k, world::target(g, e), out, pos);
+        e = world::edge_after(g, ix, q, k, u, e);
     }
     put(out, pos, CLOSE_LIST)
 }
@@ -213,13 +220,14 @@ fn object(
     g: &[u32],
     p: &[u32],
     v: &[u32],
+    ix: &[u32],
     q: &[u32],
     k: usize,
     x: u32,
     out: &mut [u32],
     at: usize,
 ) -> usize
-    requires { ⌜ WorldHeld (now a) (now g) (now p) (now v) ⌝ }
+    requires { ⌜ WorldHeld (now a) (now g) (now p) (now v) (now ix) ⌝ }
     requires { ⌜ QueryLabelled (now q) ⌝ }
     requires { ⌜ k < cell (now q) 0 ⌝ }
     requires { ⌜ Room (now out) at (braced (worldAt (now a) (now g) (now p) (now v)) (now q) k x) ⌝ }
@@ -231,6 +239,7 @@ fn object(
         g,
         p,
         v,
+        ix,
         q,
         k + 1,
         query::entry_cell(q, k, 2) + 1,

@@ -11,8 +11,8 @@ ghost use Rattle.schema.specs.Held.{SchemaHeld};
 ghost use Rattle.graph.specs.Held.{NodesHeld};
 ghost use Rattle.graph.specs.Faults.{nodesAt};
 ghost use Rattle.search.specs.Search.{areas, GraphReady};
-ghost use Rattle.checks.specs.Verdict.{judged, laterGraph};
-ghost use Rattle.graph_text.specs.GraphVerdict.{GraphJudged};
+ghost use Rattle.checks.specs.Verdict.{judged};
+ghost use Rattle.graph_text.specs.GraphVerdict.{aloneChecks, jointChecks, GraphJudged};
 use checks::Verdict;
 use rules::TypeNo;
 
@@ -34,12 +34,12 @@ fn count_nodes(g: &[u32], t: TypeNo) -> u32
     found
 }
 
-// Checks 22 to 27 of a graph that is laid out.
-fn judge_graph_rows(s: &[u8], a: &[u32], g: &[u32], p: &[u32], v: &[u32]) -> Verdict
+// Checks 22 to 24 of a graph that is laid out: those of a row by itself.
+fn judge_alone(s: &[u8], a: &[u32], g: &[u32], p: &[u32], v: &[u32]) -> Verdict
     requires { ⌜ length (now s) ≤ 65535 ⌝ }
     requires { ⌜ Each Plain (lines (now s)) ⌝ }
     requires { ⌜ GraphReady (rows (now s)) (areas (now a) (now g) (now p) (now v)) ⌝ }
-    ensures { λ r. ⌜ r ≡ judged (laterGraph (schemaAt (now (a .entry))) (now (s .entry))) ⌝ }
+    ensures { λ r. ⌜ r ≡ judged (aloneChecks (schemaAt (now (a .entry))) (now (s .entry))) ⌝ }
 {
     let b = search::first_offence(22, s, a, g, p, v);
     if 0 < b.line {
@@ -53,13 +53,23 @@ fn judge_graph_rows(s: &[u8], a: &[u32], g: &[u32], p: &[u32], v: &[u32]) -> Ver
     if 0 < d.line {
         return checks::refuse(24, d);
     }
-    let e = search::first_offence(25, s, a, g, p, v);
-    if 0 < e.line {
-        return checks::refuse(25, e);
+    checks::refuse(0, checks::nowhere())
+}
+
+// Checks 25 to 27 of a graph that is laid out: those of a row and the others.
+fn judge_joint(s: &[u8], a: &[u32], g: &[u32], p: &[u32], v: &[u32]) -> Verdict
+    requires { ⌜ length (now s) ≤ 65535 ⌝ }
+    requires { ⌜ Each Plain (lines (now s)) ⌝ }
+    requires { ⌜ GraphReady (rows (now s)) (areas (now a) (now g) (now p) (now v)) ⌝ }
+    ensures { λ r. ⌜ r ≡ judged (jointChecks (schemaAt (now (a .entry))) (now (s .entry))) ⌝ }
+{
+    let b = search::first_offence(25, s, a, g, p, v);
+    if 0 < b.line {
+        return checks::refuse(25, b);
     }
-    let f = search::first_offence(26, s, a, g, p, v);
-    if 0 < f.line {
-        return checks::refuse(26, f);
+    let c = search::first_offence(26, s, a, g, p, v);
+    if 0 < c.line {
+        return checks::refuse(26, c);
     }
     if count_nodes(g, schema::query_type(a)) != 1 {
         return checks::refuse(27, checks::nowhere());
@@ -67,14 +77,22 @@ fn judge_graph_rows(s: &[u8], a: &[u32], g: &[u32], p: &[u32], v: &[u32]) -> Ver
     checks::refuse(0, checks::nowhere())
 }
 
-// The verdict on a graph's text. Where it is accepted, the areas hold it.
-pub fn judge_graph(s: &[u8], a: &[u32], g: &mut [u32], p: &mut [u32], v: &mut [u32]) -> Verdict
+// The verdict on a graph's text. Where it is accepted, the areas hold it, with its index.
+pub fn judge_graph(
+    s: &[u8],
+    a: &[u32],
+    g: &mut [u32],
+    p: &mut [u32],
+    v: &mut [u32],
+    ix: &mut [u32],
+) -> Verdict
     requires { ⌜ SchemaHeld (now a) ⌝ }
     requires { ⌜ 15880 ≤ length (now g) ⌝ }
     requires { ⌜ 14344 ≤ length (now p) ⌝ }
     requires { ⌜ 8200 ≤ length (now v) ⌝ }
     requires { ⌜ length (now v) ≤ 16384 ⌝ }
-    ensures { λ r. ⌜ GraphJudged (schemaAt (now (a .entry))) (now (s .entry)) (length (now (g .entry))) (length (now (p .entry))) (length (now (v .entry))) (now (g .exit)) (now (p .exit)) (now (v .exit)) r ⌝ }
+    requires { ⌜ 3072 ≤ length (now ix) ⌝ }
+    ensures { λ r. ⌜ GraphJudged (schemaAt (now (a .entry))) (now (s .entry)) (length (now (g .entry))) (length (now (p .entry))) (length (now (v .entry))) (length (now (ix .entry))) (now (g .exit)) (now (p .exit)) (now (v .exit)) (now (ix .exit)) r ⌝ }
 {
     let b = checks::judge_form(20, s, a);
     if b.number != 0 {
@@ -83,5 +101,10 @@ pub fn judge_graph(s: &[u8], a: &[u32], g: &mut [u32], p: &mut [u32], v: &mut [u
     tables::lay_nodes(s, g);
     tables::lay_properties(s, p);
     tables::lay_values(s, v);
-    judge_graph_rows(s, a, g, p, v)
+    let c = judge_alone(s, a, g, p, v);
+    if c.number != 0 {
+        return c;
+    }
+    index::lay_index(g, p, ix);
+    judge_joint(s, a, g, p, v)
 }

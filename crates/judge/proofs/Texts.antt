@@ -17,6 +17,7 @@ use Rattle.tables.specs.Layout.{schemaArea, nodeArea, propertyArea, valueArea, 
 use Rattle.tables.specs.Read.{schemaAt}
 use Rattle.tables.specs.Fill.{SchemaFits}
 use Rattle.tables.proofs.Views.{schema-view}
+use Rattle.index.specs.Index.{indexArea}
 use Rattle.schema.specs.Held.{SchemaHeld}
 use Rattle.search.proofs.Calls.{schema-held}
 use Rattle.checks.specs.declared.Verdict.{Verdict}
@@ -48,6 +49,7 @@ pub record Long (w : Lent) : Type 0 where
   pub nodes : 15880 ≤ length (w .nodes)
   pub properties : 14344 ≤ length (w .properties)
   pub values : 8200 ≤ length (w .values)
+  pub index : 3072 ≤ length (w .index)
   pub query : 3592 ≤ length (w .query)
 
 pub enough : (w : Lent) → Long w → tooShortOf w ≡ false
@@ -58,6 +60,7 @@ enough w long =
       le-ltb (length (w .nodes)) 15880 (long .nodes),
       le-ltb (length (w .properties)) 14344 (long .properties),
       le-ltb (length (w .values)) 8200 (long .values),
+      le-ltb (length (w .index)) 3072 (long .index),
       le-ltb (length (w .query)) 3592 (long .query),
     )
 
@@ -72,12 +75,14 @@ long-areas w h =
     let g = both _ _ (a .1) in
     let p = both _ _ (g .1) in
     let v = both _ _ (p .1) in
-    let q = both _ _ (v .1) in
+    let x = both _ _ (v .1) in
+    let q = both _ _ (x .1) in
     record {
       schema = ltb-false _ _ (a .0);
       nodes = ltb-false _ _ (g .0);
       properties = ltb-false _ _ (p .0);
       values = ltb-false _ _ (v .0);
+      index = ltb-false _ _ (x .0);
       query = ltb-false _ _ (q .0);
     }
 
@@ -109,16 +114,29 @@ module _ (w : Lent) where
               lt-ltb (length (w .values)) 8200 h,
             )
 
-        pub short-query : 8200 ≤ length (w .values) → ltb (length (w .query)) 3592 ≡ tooShortOf w
-        unfolding tooShortOf workAreas
-        short-query v =
-            rw (
-              le-ltb (length (w .schema)) 9992 a,
-              le-ltb (length (w .nodes)) 15880 g,
-              le-ltb (length (w .properties)) 14344 p,
-              le-ltb (length (w .values)) 8200 v,
-              or-false (ltb (length (w .query)) 3592),
-            )
+        module _ (v : 8200 ≤ length (w .values)) where
+          pub short-index : length (w .index) < 3072 → true ≡ tooShortOf w
+          unfolding tooShortOf workAreas
+          short-index h =
+              rw (
+                le-ltb (length (w .schema)) 9992 a,
+                le-ltb (length (w .nodes)) 15880 g,
+                le-ltb (length (w .properties)) 14344 p,
+                le-ltb (length (w .values)) 8200 v,
+                lt-ltb (length (w .index)) 3072 h,
+              )
+
+          pub short-query : 3072 ≤ length (w .index) → ltb (length (w .query)) 3592 ≡ tooShortOf w
+          unfolding tooShortOf workAreas
+          short-query x =
+              rw (
+                le-ltb (length (w .schema)) 9992 a,
+                le-ltb (length (w .nodes)) 15880 g,
+                le-ltb (length (w .properties)) 14344 p,
+                le-ltb (length (w .values)) 8200 v,
+                le-ltb (length (w .index)) 3072 x,
+                or-false (ltb (length (w .query)) 3592),
+              )
 
 -- ---- the texts
 
@@ -163,7 +181,7 @@ module _ (s g q : List ℕ) (w : Lent) (long : tooShortOf w ≡ false) where
           ∙ behind (schemaChecks s) _ passes
           ∙ ap (λ (u : Schema). judged (graphChecks u g ++ queryChecks u q)) (sym same-schema)
 
-      module _ {k l m : ℕ} {ns ps vs : List ℕ} {c : Verdict} (i : GraphJudged (schemaAt a) g k l m ns ps vs c) where
+      module _ {k l m o : ℕ} {ns ps vs xs : List ℕ} {c : Verdict} (i : GraphJudged (schemaAt a) g k l m o ns ps vs xs c) where
         pub graph-refused : {after : Lent} → (c .number ≡ 0 → ⊥) → Judged x w after c
         graph-refused h =
             record {
@@ -180,10 +198,10 @@ module _ (s g q : List ℕ) (w : Lent) (long : tooShortOf w ≡ false) where
           past-graph = past-schema ∙ behind (graphChecks (schemaAt a) g) _ passes-graph
 
           pub all-accepted : {h : ℕ} {qs : List ℕ} {r : Verdict} → QueryJudged (schemaAt a) q h qs r → n ≡ length (w .schema)
-              → k ≡ length (w .nodes) → l ≡ length (w .properties) → m ≡ 8200 → h ≡ length (w .query)
-              → Judged x w (lent a ns ps vs qs) r
+              → k ≡ length (w .nodes) → l ≡ length (w .properties) → m ≡ 8200 → o ≡ length (w .index)
+              → h ≡ length (w .query) → Judged x w (lent a ns ps vs xs qs) r
           unfolding lent texts
-          all-accepted u en ek el em eh =
+          all-accepted u en ek el em eo eh =
               let needed = take-all 8200 vs (omega (arith, i .long .2, em)) in
               record {
                 is = u .is ∙ sym past-graph;
@@ -192,6 +210,7 @@ module _ (s g q : List ℕ) (w : Lent) (long : tooShortOf w ≡ false) where
                   nodes = i .held y .0 ∙ ap (λ (d : ℕ). nodeArea d (rows g)) ek;
                   properties = i .held y .1 ∙ ap (λ (d : ℕ). propertyArea d (rows g)) el;
                   values = needed ∙ i .held y .2 ∙ ap (λ (d : ℕ). valueArea d (rows g)) em;
+                  index = i .held y .3 ∙ ap (λ (d : ℕ). indexArea d (rows g)) eo;
                   query = u .held f ∙ ap (λ (d : ℕ). queryArea d (rows q)) eh;
                 };
               }
@@ -208,21 +227,22 @@ module _ (s g q : List ℕ) (w : Lent) where
       }
 
 -- of the values' area the needed part is lent, and stands at the front afterwards
-pub widened : (s g q a ns ps vs qs b ms os u us rest : List ℕ) (r : Verdict) → tooShortOf (lent a ns ps vs qs) ≡ false
-    → length u ≡ 8200 → Judged (texts s g q) (lent a ns ps (take 8200 vs) qs) (lent b ms os u us) r
-    → Judged (texts s g q) (lent a ns ps vs qs) (lent b ms os (u ++ rest) us) r
+pub widened : (s g q a ns ps vs xs qs b ms os u ys us rest : List ℕ) (r : Verdict) → tooShortOf (lent a ns ps vs xs qs) ≡ false
+    → length u ≡ 8200 → Judged (texts s g q) (lent a ns ps (take 8200 vs) xs qs) (lent b ms os u ys us) r
+    → Judged (texts s g q) (lent a ns ps vs xs qs) (lent b ms os (u ++ rest) ys us) r
 unfolding lent texts
-widened s g q a ns ps vs qs b ms os u us rest r h l j =
-    let w = lent a ns ps vs qs in
+widened s g q a ns ps vs xs qs b ms os u ys us rest r h l j =
+    let w = lent a ns ps vs xs qs in
     let long : Long w = long-areas w h in
     let part : length (take 8200 vs) ≡ 8200 = length-take-le 8200 vs (long .values) in
-    let narrow : tooShortOf (lent a ns ps (take 8200 vs) qs) ≡ false =
-    enough (lent a ns ps (take 8200 vs) qs)
+    let narrow : tooShortOf (lent a ns ps (take 8200 vs) xs qs) ≡ false =
+    enough (lent a ns ps (take 8200 vs) xs qs)
     (record {
       schema = long .schema;
       nodes = long .nodes;
       properties = long .properties;
       values = omega arith;
+      index = long .index;
       query = long .query;
     }) in
     record {
@@ -234,6 +254,7 @@ widened s g q a ns ps vs qs b ms os u us rest r h l j =
             nodes = k .nodes;
             properties = k .properties;
             values = take-append-le 8200 u rest (omega arith) ∙ k .values;
+            index = k .index;
             query = k .query;
           };
     }

@@ -7,6 +7,7 @@ use lib.ListN.{length, take}
 use Rattle.rules.specs.Text.{rows}
 use Rattle.rules.specs.Answer.{Texts, Area, tooShort}
 use Rattle.tables.specs.Layout.{schemaArea, nodeArea, propertyArea, valueArea, queryArea}
+use Rattle.index.specs.Index.{indexArea}
 use Rattle.checks.specs.declared.Verdict.{Verdict}
 use Rattle.checks.specs.Verdict.{judged, textChecks}
 
@@ -20,10 +21,11 @@ pub record Lent : Type 0 where
   pub nodes : List ℕ
   pub properties : List ℕ
   pub values : List ℕ
+  pub index : List ℕ
   pub query : List ℕ
 
-unfoldable pub lent : List ℕ → List ℕ → List ℕ → List ℕ → List ℕ → Lent
-lent a g p v q = record { schema = a; nodes = g; properties = p; values = v; query = q }
+unfoldable pub lent : List ℕ → List ℕ → List ℕ → List ℕ → List ℕ → List ℕ → Lent
+lent a g p v x q = record { schema = a; nodes = g; properties = p; values = v; index = x; query = q }
 
 -- each with the length that is needed
 unfoldable pub workAreas : Lent → List Area
@@ -32,6 +34,7 @@ workAreas w =
     ∷ record { needed = 15880; held = w .nodes }
     ∷ record { needed = 14344; held = w .properties }
     ∷ record { needed = 8200; held = w .values }
+    ∷ record { needed = 3072; held = w .index }
     ∷ record { needed = 3592; held = w .query }
     ∷ []
 
@@ -39,12 +42,14 @@ workAreas w =
 unfoldable pub tooShortOf : Lent → Bool
 tooShortOf w = tooShort (workAreas w)
 
--- The tables of accepted texts: each area holds the rows' encoding and zeros behind it; of the values' the needed part does.
+-- The tables of accepted texts and the graph's index: each area holds the rows' encoding and zeros behind it; of the values' the needed
+-- part does.
 pub record Holding (x : Texts) (before after : Lent) : Type 0 where
   pub schema : after .schema ≡ schemaArea (length (before .schema)) (rows (x .schema))
   pub nodes : after .nodes ≡ nodeArea (length (before .nodes)) (rows (x .graph))
   pub properties : after .properties ≡ propertyArea (length (before .properties)) (rows (x .graph))
   pub values : take 8200 (after .values) ≡ valueArea 8200 (rows (x .graph))
+  pub index : after .index ≡ indexArea (length (before .index)) (rows (x .graph))
   pub query : after .query ≡ queryArea (length (before .query)) (rows (x .query))
 
 pub record Judged (x : Texts) (before after : Lent) (v : Verdict) : Type 0 where

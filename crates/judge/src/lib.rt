@@ -7,8 +7,8 @@ ghost use Rattle.judge.specs.Texts.{texts, lent, tooShortOf, Judged};
 use checks::Verdict;
 
 // Whether an area is shorter than it has to be.
-fn short(a: &[u32], g: &[u32], p: &[u32], v: &[u32], q: &[u32]) -> bool
-    ensures { λ r. ⌜ r ≡ tooShortOf (lent (now (a .entry)) (now (g .entry)) (now (p .entry)) (now (v .entry)) (now (q .entry))) ⌝ }
+fn short(a: &[u32], g: &[u32], p: &[u32], v: &[u32], ix: &[u32], q: &[u32]) -> bool
+    ensures { λ r. ⌜ r ≡ tooShortOf (lent (now (a .entry)) (now (g .entry)) (now (p .entry)) (now (v .entry)) (now (ix .entry)) (now (q .entry))) ⌝ }
 {
     if a.len() < 9992 {
         return true;
@@ -20,6 +20,9 @@ fn short(a: &[u32], g: &[u32], p: &[u32], v: &[u32], q: &[u32]) -> bool
         return true;
     }
     if v.len() < 8200 {
+        return true;
+    }
+    if ix.len() < 3072 {
         return true;
     }
     q.len() < 3592
@@ -34,20 +37,22 @@ fn judge_texts(
     g: &mut [u32],
     p: &mut [u32],
     v: &mut [u32],
+    ix: &mut [u32],
     q: &mut [u32],
 ) -> Verdict
     requires { ⌜ 9992 ≤ length (now a) ⌝ }
     requires { ⌜ 15880 ≤ length (now g) ⌝ }
     requires { ⌜ 14344 ≤ length (now p) ⌝ }
     requires { ⌜ length (now v) ≡ 8200 ⌝ }
+    requires { ⌜ 3072 ≤ length (now ix) ⌝ }
     requires { ⌜ 3592 ≤ length (now q) ⌝ }
-    ensures { λ r. ⌜ Judged (texts (now (schema .entry)) (now (graph .entry)) (now (query .entry))) (lent (now (a .entry)) (now (g .entry)) (now (p .entry)) (now (v .entry)) (now (q .entry))) (lent (now (a .exit)) (now (g .exit)) (now (p .exit)) (now (v .exit)) (now (q .exit))) r ⌝ }
+    ensures { λ r. ⌜ Judged (texts (now (schema .entry)) (now (graph .entry)) (now (query .entry))) (lent (now (a .entry)) (now (g .entry)) (now (p .entry)) (now (v .entry)) (now (ix .entry)) (now (q .entry))) (lent (now (a .exit)) (now (g .exit)) (now (p .exit)) (now (v .exit)) (now (ix .exit)) (now (q .exit))) r ⌝ }
 {
     let b = checks::judge_schema(schema, a);
     if b.number != 0 {
         return b;
     }
-    let c = graph_text::judge_graph(graph, a, g, p, v);
+    let c = graph_text::judge_graph(graph, a, g, p, v, ix);
     if c.number != 0 {
         return c;
     }
@@ -63,12 +68,13 @@ pub fn judge(
     g: &mut [u32],
     p: &mut [u32],
     v: &mut [u32],
+    ix: &mut [u32],
     q: &mut [u32],
 ) -> Verdict
-    ensures { λ r. ⌜ Judged (texts (now (schema .entry)) (now (graph .entry)) (now (query .entry))) (lent (now (a .entry)) (now (g .entry)) (now (p .entry)) (now (v .entry)) (now (q .entry))) (lent (now (a .exit)) (now (g .exit)) (now (p .exit)) (now (v .exit)) (now (q .exit))) r ⌝ }
+    ensures { λ r. ⌜ Judged (texts (now (schema .entry)) (now (graph .entry)) (now (query .entry))) (lent (now (a .entry)) (now (g .entry)) (now (p .entry)) (now (v .entry)) (now (ix .entry)) (now (q .entry))) (lent (now (a .exit)) (now (g .exit)) (now (p .exit)) (now (v .exit)) (now (ix .exit)) (now (q .exit))) r ⌝ }
 {
-    if short(a, g, p, v, q) {
+    if short(a, g, p, v, ix, q) {
         return checks::refuse(2, checks::nowhere());
     }
-    judge_texts(schema, graph, query, a, g, p, &mut v[..8200], q)
+    judge_texts(schema, graph, query, a, g, p, &mut v[..8200], ix, q)
 }

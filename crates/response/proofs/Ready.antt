@@ -19,7 +19,11 @@ use Rattle.rules.proofs.Size.{Closed}
 use Rattle.rules.proofs.Preorder.{Steps}
 use Rattle.rules.proofs.Facts.{Facts, facts}
 use Rattle.tables.specs.Read.{cell, wideAt, schemaAt, graphAt}
+use Rattle.tables.specs.Layout.{nodeArea, propertyArea}
 use Rattle.tables.proofs.Labelling.{each-at}
+use Rattle.index.specs.Index.{Linked}
+use Rattle.index.proofs.Areas.{rows-linked}
+use Rattle.index.proofs.Declared.{edges-within, properties-within}
 use Rattle.schema.specs.Held.{SchemaHeld}
 use Rattle.graph.specs.Faults.{nodesAt}
 use Rattle.query.specs.Entries.{QueryHeld, entriesAt}
@@ -49,7 +53,7 @@ rootIn w = rootAt (w .schema) (w .nodes)
 
 -- What sizing and evaluation ask of the areas, and what the areas say of the texts.
 pub record Readable (x : Texts) (w : Lent) : Type 0 where
-  pub held : WorldHeld (w .schema) (w .nodes) (w .properties) (take 8200 (w .values))
+  pub held : WorldHeld (w .schema) (w .nodes) (w .properties) (take 8200 (w .values)) (w .index)
   pub steps : QuerySteps (w .query)
   pub labelled : QueryLabelled (w .query)
   pub root : rootIn w < cell (w .nodes) 0
@@ -109,21 +113,40 @@ module _ (x : Texts) (before after : Lent) (v : Verdict) (j : Judged x before af
   unfolding worldAt
   same-world = world-read x before after v j z
 
-  edges-ready : EdgesHeld (after .nodes)
+  -- the tables and their index
+  linked : Linked (after .nodes) 1544 (cell (after .nodes) 1) (after .index) 0
+      × Linked (after .properties) 8 (cell (after .properties) 0) (after .index) 1536
+  linked =
+      let rs = graphRows x in
+      let fits = graph-fits rs (passed 21) in
+      let own = rows-linked (length (before .nodes)) (length (before .properties)) (length (before .index)) rs
+      (long .nodes) (long .properties) fits (long .index)
+      (edges-within (schemaIn x) rs (passed 22) fits) (properties-within (schemaIn x) rs (passed 22) fits) in
+      let stands = subst (λ (y : List ℕ). Linked (nodeArea (length (before .nodes)) rs) 1544 (cell (nodeArea (length (before .nodes)) rs) 1) y 0)
+      (sym (hold .index)) (own .0) in
+      let stand = subst (λ (y : List ℕ). Linked (propertyArea (length (before .properties)) rs) 8
+      (cell (propertyArea (length (before .properties)) rs) 0) y 1536) (sym (hold .index)) (own .1) in (
+        subst (λ (g : List ℕ). Linked g 1544 (cell g 1) (after .index) 0) (sym (hold .nodes)) stands,
+        subst (λ (p : List ℕ). Linked p 8 (cell p 0) (after .index) 1536) (sym (hold .properties)) stand,
+      )
+
+  edges-ready : EdgesHeld (after .nodes) (after .index)
   unfolding areas
   edges-ready =
       record {
         nodes = nodes-read (graphRows x) _ graph-ready;
         ends = closed-ends (after .schema) (after .nodes) (after .properties) vs (subst Closed (sym same-world) (known .closed));
+        links = linked .0;
       }
 
-  world-ready : WorldHeld (after .schema) (after .nodes) (after .properties) vs
+  world-ready : WorldHeld (after .schema) (after .nodes) (after .properties) vs (after .index)
   unfolding areas
   world-ready =
       record {
         graph = record { schema = schema-ready; edges = edges-ready };
         properties = properties-read (graphRows x) _ graph-ready;
         values = omega (arith, length-take 8200 (after .values));
+        own = linked .1;
       }
 
   -- the query node

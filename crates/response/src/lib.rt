@@ -53,15 +53,16 @@ pub fn measure(
     g: &mut [u32],
     p: &mut [u32],
     v: &mut [u32],
+    ix: &mut [u32],
     q: &mut [u32],
     m: &mut [u64],
 ) -> Outcome
-    ensures { λ r. ⌜ Measured (texts (now (schema .entry)) (now (graph .entry)) (now (query .entry))) (lent (now (a .entry)) (now (g .entry)) (now (p .entry)) (now (v .entry)) (now (q .entry))) (lent (now (a .exit)) (now (g .exit)) (now (p .exit)) (now (v .exit)) (now (q .exit))) (now (m .entry)) r ⌝ }
+    ensures { λ r. ⌜ Measured (texts (now (schema .entry)) (now (graph .entry)) (now (query .entry))) (lent (now (a .entry)) (now (g .entry)) (now (p .entry)) (now (v .entry)) (now (ix .entry)) (now (q .entry))) (lent (now (a .exit)) (now (g .exit)) (now (p .exit)) (now (v .exit)) (now (ix .exit)) (now (q .exit))) (now (m .entry)) r ⌝ }
 {
     if m.len() < 8192 {
         return refuse(2);
     }
-    let b = judge::judge(schema, graph, query, a, g, p, v, q);
+    let b = judge::judge(schema, graph, query, a, g, p, v, ix, q);
     if b.number != 0 {
         return Outcome {
             number: b.number,
@@ -70,7 +71,7 @@ pub fn measure(
             visits: 0,
         };
     }
-    let t = sizing::size_query(a, g, p, &v[..8200], q, m);
+    let t = sizing::size_query(a, g, p, &v[..8200], ix, q, m);
     Outcome {
         number: 0,
         place: 0,
@@ -89,22 +90,23 @@ pub fn respond(
     g: &mut [u32],
     p: &mut [u32],
     v: &mut [u32],
+    ix: &mut [u32],
     q: &mut [u32],
     m: &mut [u64],
     room: u32,
     out: &mut [u32],
 ) -> Outcome
-    ensures { λ r. ⌜ Responded (texts (now (schema .entry)) (now (graph .entry)) (now (query .entry))) (lent (now (a .entry)) (now (g .entry)) (now (p .entry)) (now (v .entry)) (now (q .entry))) (now (m .entry)) room (now (out .entry)) (now (out .exit)) r ⌝ }
+    ensures { λ r. ⌜ Responded (texts (now (schema .entry)) (now (graph .entry)) (now (query .entry))) (lent (now (a .entry)) (now (g .entry)) (now (p .entry)) (now (v .entry)) (now (ix .entry)) (now (q .entry))) (now (m .entry)) room (now (out .entry)) (now (out .exit)) r ⌝ }
 {
     if 16384 < room {
         return refuse(1);
     }
-    let s = measure(schema, graph, query, a, g, p, v, q, m);
+    let s = measure(schema, graph, query, a, g, p, v, ix, q, m);
     let o = limit(s, room, out);
     if o.number != 0 {
         return o;
     }
     let root = world::query_node(a, g);
-    evaluate::selection(a, g, p, &v[..8200], q, 0, 0, root, out, 0);
+    evaluate::selection(a, g, p, &v[..8200], ix, q, 0, 0, root, out, 0);
     o
 }

@@ -11,3 +11,4 @@ pub mod Looping
 pub mod Asking
 pub mod Plainly
 pub mod Dispatch
+pub mod Chained

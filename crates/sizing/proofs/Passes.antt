@@ -228,7 +228,7 @@ module _ (a g p v q : List ℕ) where
         let goal = measured w (entriesAt q) (rootAt a g) in
         left-none w goal (cell g 0) k m t (subst (λ (es : List Entry). Left w goal (cell g 0) es k m t) (entries-end q k h) x)
 
-    module _ (d : ℕ) (m′ : List ℕ) (t′ : Tally) (held : WorldHeld a g p v) (asks : QueryHeld q) (inside : k < cell q 0)
+    module _ (d : ℕ) (m′ : List ℕ) (t′ : Tally) {ix : List ℕ} (held : WorldHeld a g p v ix) (asks : QueryHeld q) (inside : k < cell q 0)
         (depth : d ≡ wideAt q 8 k 2) (adds : t′ ≡ tallied (worldAt a g p v) t (visitsOf (entryIn q k) 0 (rowIn m (512 * d) (cell g 0))))
         (slow : t′ .visits ≤ t .visits + cell g 0) where
       next-left : Left (worldAt a g p v) (measured (worldAt a g p v) (entriesAt q) (rootAt a g)) (cell g 0)

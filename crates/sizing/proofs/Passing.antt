@@ -85,7 +85,7 @@ module _ (a g q : List ℕ) (k u : ℕ) where
       ∙ ap (onward (shapeAt a g u (fieldNo (wideAt q 8 k 4)))) (world-targets a g [] [] u (askedAt q k))
 
   -- they are nodes
-  pub next-nodes : EdgesHeld g → u < cell g 0 → Below (cell g 0) (nextAt a g q k u)
+  pub next-nodes : {x : List ℕ} → EdgesHeld g x → u < cell g 0 → Below (cell g 0) (nextAt a g q k u)
   unfolding nextAt
   next-nodes h n =
       let s = world-size a g [] [] in

@@ -6,6 +6,8 @@ ghost use mathlib.Core.List.{[]};
 ghost use Rattle.rules.specs.Sizing.{start, visitsOf, own, ofValue, cap as capped};
 ghost use Rattle.tables.specs.Layout.{laid};
 ghost use Rattle.tables.specs.Read.{cell, targetsAt};
+ghost use Rattle.index.specs.Index.{Linked};
+ghost use Rattle.schema.specs.Held.{SchemaHeld};
 ghost use Rattle.graph.specs.Held.{NodesHeld, PropertiesHeld};
 ghost use Rattle.query.specs.Entries.{QueryHeld, entriesAt};
 ghost use Rattle.world.specs.World.{worldAt, rootAt, EdgesHeld, GraphHeld, WorldHeld, asksAt, askedAt, entryIn, nextAt, lookupAt, foundBy};
@@ -54,8 +56,8 @@ impl Tally {
 // ---- own tokens
 
 // How many targets entry k has at node u.
-fn count_targets(g: &[u32], q: &[u32], k: usize, u: u32) -> u32
-    requires { ⌜ NodesHeld (now g) ⌝ }
+fn count_targets(g: &[u32], ix: &[u32], q: &[u32], k: usize, u: u32) -> u32
+    requires { ⌜ EdgesHeld (now g) (now ix) ⌝ }
     requires { ⌜ QueryHeld (now q) ⌝ }
     requires { ⌜ k < cell (now q) 0 ⌝ }
     ensures { λ r. ⌜ r ≡ length (targetsAt (now (g .entry)) u (askedAt (now (q .entry)) k)) ⌝ }
@@ -63,23 +65,24 @@ fn count_targets(g: &[u32], q: &[u32], k: usize, u: u32) -> u32
 {
     let m = g[1] as usize;
     let mut n: u32 = 0;
-    let mut e = world::edge_from(g, q, k, u, 0);
+    let mut e = world::first_edge(g, ix, q, k, u);
     while e < m {
         n += 1;
-        e = world::edge_from(g, q, k, u, e + 1);
+        e = world::edge_after(g, ix, q, k, u, e);
     }
     n
 }
 
 // The own tokens of entry k, a scalar field, at node u.
-fn value_tokens(p: &[u32], v: &[u32], q: &[u32], k: usize, u: u32) -> u32
+fn value_tokens(p: &[u32], v: &[u32], ix: &[u32], q: &[u32], k: usize, u: u32) -> u32
     requires { ⌜ PropertiesHeld (now p) (now v) ⌝ }
     requires { ⌜ length (now v) ≤ 8200 ⌝ }
+    requires { ⌜ Linked (now p) 8 (cell (now p) 0) (now ix) 1536 ⌝ }
     requires { ⌜ QueryHeld (now q) ⌝ }
     requires { ⌜ k < cell (now q) 0 ⌝ }
     ensures { λ r. ⌜ r ≡ ofValue (foundBy (now (p .entry)) (now (v .entry)) (lookupAt (now (p .entry)) u (askedAt (now (q .entry)) k))) ⌝ }
 {
-    let world::Property::Row(j) = world::lookup(p, q, k, u) else {
+    let world::Property::Row(j) = world::lookup(p, ix, q, k, u) else {
         return 2;
     };
     if world::is_sequence(p, j) {
@@ -89,8 +92,17 @@ fn value_tokens(p: &[u32], v: &[u32], q: &[u32], k: usize, u: u32) -> u32
 }
 
 // The own tokens of entry k at node u.
-pub fn own_tokens(a: &[u32], g: &[u32], p: &[u32], v: &[u32], q: &[u32], k: usize, u: u32) -> u32
-    requires { ⌜ WorldHeld (now a) (now g) (now p) (now v) ⌝ }
+pub fn own_tokens(
+    a: &[u32],
+    g: &[u32],
+    p: &[u32],
+    v: &[u32],
+    ix: &[u32],
+    q: &[u32],
+    k: usize,
+    u: u32,
+) -> u32
+    requires { ⌜ WorldHeld (now a) (now g) (now p) (now v) (now ix) ⌝ }
     requires { ⌜ QueryHeld (now q) ⌝ }
     requires { ⌜ k < cell (now q) 0 ⌝ }
     ensures { λ r. ⌜ r ≡ own (worldAt (now (a .entry)) (now (g .entry)) (now (p .entry)) (now (v .entry))) (asksAt (now (q .entry)) k) u ⌝ }
@@ -101,13 +113,13 @@ pub fn own_tokens(a: &[u32], g: &[u32], p: &[u32], v: &[u32], q: &[u32], k: usiz
     let kind = world::shape(a, g, u, FieldNo(query::entry_cell(q, k, 4)));
     match kind {
         world::FieldKind::Scalar => {
-            return value_tokens(p, v, q, k, u);
+            return value_tokens(p, v, ix, q, k, u);
         }
         world::FieldKind::Objects => {
-            return 3 + 2 * count_targets(g, q, k, u);
+            return 3 + 2 * count_targets(g, ix, q, k, u);
         }
         world::FieldKind::Object => {
-            if world::edge_from(g, q, k, u, 0) < g[1] as usize {
+            if world::first_edge(g, ix, q, k, u) < g[1] as usize {
                 return 3;
             }
             return 2;
@@ -146,24 +158,34 @@ fn add_at(m: &mut [u64], i: usize, x: u64)
 }
 
 // Adds x at the targets of entry k at node u, in the row from place b on.
-fn push_targets(g: &[u32], q: &[u32], k: usize, u: u32, x: u64, m: &mut [u64], b: usize)
-    requires { ⌜ EdgesHeld (now g) ⌝ }
+fn push_targets(g: &[u32], ix: &[u32], q: &[u32], k: usize, u: u32, x: u64, m: &mut [u64], b: usize)
+    requires { ⌜ EdgesHeld (now g) (now ix) ⌝ }
     requires { ⌜ QueryHeld (now q) ⌝ }
     requires { ⌜ k < cell (now q) 0 ⌝ }
     requires { ⌜ b + cell (now g) 0 ≤ length (now m) ⌝ }
     ensures { λ _. ⌜ now (m .exit) ≡ pushed b x (targetsAt (now (g .entry)) u (askedAt (now (q .entry)) k)) (now (m .entry)) ⌝ }
 {
     let n = g[1] as usize;
-    let mut e = world::edge_from(g, q, k, u, 0);
+    let mut e = world::first_edge(g, ix, q, k, u);
     while e < n {
         add_at(m, b + world::target(g, e) as usize, x);
-        e = world::edge_from(g, q, k, u, e + 1);
+        e = world::edge_after(g, ix, q, k, u, e);
     }
 }
 
 // Adds x at the nodes at which the evaluation of entry k at node u goes on, in the row from place b on.
-fn pass_on(a: &[u32], g: &[u32], q: &[u32], k: usize, u: u32, x: u64, m: &mut [u64], b: usize)
-    requires { ⌜ GraphHeld (now a) (now g) ⌝ }
+fn pass_on(
+    a: &[u32],
+    g: &[u32],
+    ix: &[u32],
+    q: &[u32],
+    k: usize,
+    u: u32,
+    x: u64,
+    m: &mut [u64],
+    b: usize,
+)
+    requires { ⌜ GraphHeld (now a) (now g) (now ix) ⌝ }
     requires { ⌜ QueryHeld (now q) ⌝ }
     requires { ⌜ k < cell (now q) 0 ⌝ }
     requires { ⌜ u < cell (now g) 0 ⌝ }
@@ -182,11 +204,11 @@ fn pass_on(a: &[u32], g: &[u32], q: &[u32], k: usize, u: u32, x: u64, m: &mut [u
             return;
         }
         world::FieldKind::Objects => {
-            push_targets(g, q, k, u, x, m, b);
+            push_targets(g, ix, q, k, u, x, m, b);
             return;
         }
         world::FieldKind::Object => {
-            let e = world::edge_from(g, q, k, u, 0);
+            let e = world::first_edge(g, ix, q, k, u);
             if e < g[1] as usize {
                 add_at(m, b + world::target(g, e) as usize, x);
             }
@@ -196,8 +218,17 @@ fn pass_on(a: &[u32], g: &[u32], q: &[u32], k: usize, u: u32, x: u64, m: &mut [u
 }
 
 // Makes the row of entry k's children from place b on, of the entry's own row from place c on.
-fn pass_row(a: &[u32], g: &[u32], q: &[u32], k: usize, m: &mut [u64], c: usize, b: usize)
-    requires { ⌜ GraphHeld (now a) (now g) ⌝ }
+fn pass_row(
+    a: &[u32],
+    g: &[u32],
+    ix: &[u32],
+    q: &[u32],
+    k: usize,
+    m: &mut [u64],
+    c: usize,
+    b: usize,
+)
+    requires { ⌜ GraphHeld (now a) (now g) (now ix) ⌝ }
     requires { ⌜ QueryHeld (now q) ⌝ }
     requires { ⌜ k < cell (now q) 0 ⌝ }
     requires { ⌜ c + cell (now g) 0 ≤ b ⌝ }
@@ -210,7 +241,7 @@ fn pass_row(a: &[u32], g: &[u32], q: &[u32], k: usize, m: &mut [u64], c: usize, 
     while u < n {
         let x = number_at(m, c + u as usize);
         if 0 < x {
-            pass_on(a, g, q, k, u, x, m, b);
+            pass_on(a, g, ix, q, k, u, x, m, b);
         }
         u += 1;
     }
@@ -222,13 +253,14 @@ fn tally_row(
     g: &[u32],
     p: &[u32],
     v: &[u32],
+    ix: &[u32],
     q: &[u32],
     k: usize,
     m: &[u64],
     c: usize,
     t: Tally,
 ) -> Tally
-    requires { ⌜ WorldHeld (now a) (now g) (now p) (now v) ⌝ }
+    requires { ⌜ WorldHeld (now a) (now g) (now p) (now v) (now ix) ⌝ }
     requires { ⌜ QueryHeld (now q) ⌝ }
     requires { ⌜ k < cell (now q) 0 ⌝ }
     requires { ⌜ c + cell (now g) 0 ≤ length (now m) ⌝ }
@@ -242,7 +274,7 @@ fn tally_row(
     while u < n {
         let x = number_at(m, c + u as usize);
         if 0 < x {
-            r = r.add(x, own_tokens(a, g, p, v, q, k, u));
+            r = r.add(x, own_tokens(a, g, p, v, ix, q, k, u));
         }
         u += 1;
     }
@@ -251,7 +283,8 @@ fn tally_row(
 
 // The first row: 1 at the query node.
 fn first_row(a: &[u32], g: &[u32], m: &mut [u64])
-    requires { ⌜ GraphHeld (now a) (now g) ⌝ }
+    requires { ⌜ SchemaHeld (now a) ⌝ }
+    requires { ⌜ NodesHeld (now g) ⌝ }
     requires { ⌜ rootAt (now a) (now g) < cell (now g) 0 ⌝ }
     requires { ⌜ cell (now g) 0 ≤ length (now m) ⌝ }
     ensures { λ _. ⌜ now (m .exit) ≡ laid 0 (start (worldAt (now (a .entry)) (now (g .entry)) [] []) (rootAt (now (a .entry)) (now (g .entry)))) (now (m .entry)) ⌝ }
@@ -261,8 +294,16 @@ fn first_row(a: &[u32], g: &[u32], m: &mut [u64])
 }
 
 // The size and the visits of the query that the areas hold. The row of each depth stands at 512 times the depth.
-pub fn size_query(a: &[u32], g: &[u32], p: &[u32], v: &[u32], q: &[u32], m: &mut [u64]) -> Tally
-    requires { ⌜ WorldHeld (now a) (now g) (now p) (now v) ⌝ }
+pub fn size_query(
+    a: &[u32],
+    g: &[u32],
+    p: &[u32],
+    v: &[u32],
+    ix: &[u32],
+    q: &[u32],
+    m: &mut [u64],
+) -> Tally
+    requires { ⌜ WorldHeld (now a) (now g) (now p) (now v) (now ix) ⌝ }
     requires { ⌜ QuerySteps (now q) ⌝ }
     requires { ⌜ rootAt (now a) (now g) < cell (now g) 0 ⌝ }
     requires { ⌜ 8192 ≤ length (now m) ⌝ }
@@ -274,9 +315,9 @@ pub fn size_query(a: &[u32], g: &[u32], p: &[u32], v: &[u32], q: &[u32], m: &mut
     let mut k: usize = 0;
     while k < n {
         let d = query::entry_cell(q, k, 2) as usize;
-        t = tally_row(a, g, p, v, q, k, m, 512 * d, t);
+        t = tally_row(a, g, p, v, ix, q, k, m, 512 * d, t);
         if d < 15 {
-            pass_row(a, g, q, k, m, 512 * d, 512 * d + 512);
+            pass_row(a, g, ix, q, k, m, 512 * d, 512 * d + 512);
         }
         k += 1;
     }

@@ -65,7 +65,7 @@ beyond n room buffer = (λ h. go h (decLt room n), back)
 
 all-cleared : (g : Given) (l : Left) → AreasEnsured g l → areasLeft l ≡ areasAfter (areasIn g)
 unfolding areasOf workAreas cleared
-all-cleared g l a = λ i. a .schema i ∷ a .nodes i ∷ a .properties i ∷ a .values i ∷ a .query i ∷ a .rows i ∷ []
+all-cleared g l a = λ i. a .schema i ∷ a .nodes i ∷ a .properties i ∷ a .values i ∷ a .index i ∷ a .query i ∷ a .rows i ∷ []
 
 module _ (g : Given) (size answer : Left) (buffer : List ℕ) (es : SizeEnsured g size) (ea : AnswerEnsured g answer buffer) where
   abbrev x : Texts

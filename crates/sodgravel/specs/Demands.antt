@@ -44,6 +44,7 @@ pub record AreasEnsured (g : Given) (l : Left) : Type 0 where
   pub nodes : l .areas .nodes ≡ cleared (g .areas .nodes)
   pub properties : l .areas .properties ≡ cleared (g .areas .properties)
   pub values : l .areas .values ≡ cleared (g .areas .values)
+  pub index : l .areas .index ≡ cleared (g .areas .index)
   pub query : l .areas .query ≡ cleared (g .areas .query)
   pub rows : l .rows ≡ cleared (g .rows)
 
@@ -67,7 +68,7 @@ shortIn g = anyShort (g .areas) (g .rows)
 
 abbrev pub areasLeft : Left → List (List ℕ)
 areasLeft l =
-    l .areas .schema ∷ l .areas .nodes ∷ l .areas .properties ∷ l .areas .values ∷ l .areas .query ∷ l .rows ∷ []
+    l .areas .schema ∷ l .areas .nodes ∷ l .areas .properties ∷ l .areas .values ∷ l .areas .index ∷ l .areas .query ∷ l .rows ∷ []
 
 -- ---- demand 1
 

@@ -16,18 +16,20 @@ pub extern "C" fn sodgravel_size(
     g: &mut [u32],
     p: &mut [u32],
     v: &mut [u32],
+    ix: &mut [u32],
     q: &mut [u32],
     m: &mut [u64],
 ) -> Outcome
-    ensures { λ r. ⌜ r ≡ sizedIn (lent (now (a .entry)) (now (g .entry)) (now (p .entry)) (now (v .entry)) (now (q .entry))) (now (m .entry)) (texts (now (schema .entry)) (now (graph .entry)) (now (query .entry))) ⌝ }
+    ensures { λ r. ⌜ r ≡ sizedIn (lent (now (a .entry)) (now (g .entry)) (now (p .entry)) (now (v .entry)) (now (ix .entry)) (now (q .entry))) (now (m .entry)) (texts (now (schema .entry)) (now (graph .entry)) (now (query .entry))) ⌝ }
     ensures { λ _. ⌜ now (a .exit) ≡ cleared (now (a .entry)) ⌝ }
     ensures { λ _. ⌜ now (g .exit) ≡ cleared (now (g .entry)) ⌝ }
     ensures { λ _. ⌜ now (p .exit) ≡ cleared (now (p .entry)) ⌝ }
     ensures { λ _. ⌜ now (v .exit) ≡ cleared (now (v .entry)) ⌝ }
+    ensures { λ _. ⌜ now (ix .exit) ≡ cleared (now (ix .entry)) ⌝ }
     ensures { λ _. ⌜ now (q .exit) ≡ cleared (now (q .entry)) ⌝ }
     ensures { λ _. ⌜ now (m .exit) ≡ cleared (now (m .entry)) ⌝ }
 {
-    crate::size(schema, graph, query, a, g, p, v, q, m)
+    crate::size(schema, graph, query, a, g, p, v, ix, q, m)
 }
 
 // `answer`, under its C name.
@@ -40,19 +42,21 @@ pub extern "C" fn sodgravel_answer(
     g: &mut [u32],
     p: &mut [u32],
     v: &mut [u32],
+    ix: &mut [u32],
     q: &mut [u32],
     m: &mut [u64],
     room: u32,
     out: &mut [u32],
 ) -> Outcome
-    ensures { λ r. ⌜ r ≡ answeredIn (lent (now (a .entry)) (now (g .entry)) (now (p .entry)) (now (v .entry)) (now (q .entry))) (now (m .entry)) (texts (now (schema .entry)) (now (graph .entry)) (now (query .entry))) room (now (out .entry)) ⌝ }
-    ensures { λ _. ⌜ now (out .exit) ≡ bufferIn (lent (now (a .entry)) (now (g .entry)) (now (p .entry)) (now (v .entry)) (now (q .entry))) (now (m .entry)) (texts (now (schema .entry)) (now (graph .entry)) (now (query .entry))) room (now (out .entry)) ⌝ }
+    ensures { λ r. ⌜ r ≡ answeredIn (lent (now (a .entry)) (now (g .entry)) (now (p .entry)) (now (v .entry)) (now (ix .entry)) (now (q .entry))) (now (m .entry)) (texts (now (schema .entry)) (now (graph .entry)) (now (query .entry))) room (now (out .entry)) ⌝ }
+    ensures { λ _. ⌜ now (out .exit) ≡ bufferIn (lent (now (a .entry)) (now (g .entry)) (now (p .entry)) (now (v .entry)) (now (ix .entry)) (now (q .entry))) (now (m .entry)) (texts (now (schema .entry)) (now (graph .entry)) (now (query .entry))) room (now (out .entry)) ⌝ }
     ensures { λ _. ⌜ now (a .exit) ≡ cleared (now (a .entry)) ⌝ }
     ensures { λ _. ⌜ now (g .exit) ≡ cleared (now (g .entry)) ⌝ }
     ensures { λ _. ⌜ now (p .exit) ≡ cleared (now (p .entry)) ⌝ }
     ensures { λ _. ⌜ now (v .exit) ≡ cleared (now (v .entry)) ⌝ }
+    ensures { λ _. ⌜ now (ix .exit) ≡ cleared (now (ix .entry)) ⌝ }
     ensures { λ _. ⌜ now (q .exit) ≡ cleared (now (q .entry)) ⌝ }
     ensures { λ _. ⌜ now (m .exit) ≡ cleared (now (m .entry)) ⌝ }
 {
-    crate::answer(schema, graph, query, a, g, p, v, q, m, room, out)
+    crate::answer(schema, graph, query, a, g, p, v, ix, q, m, room, out)
 }

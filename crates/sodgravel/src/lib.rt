@@ -13,6 +13,7 @@ fn clear_all(
     g: &mut [u32],
     p: &mut [u32],
     v: &mut [u32],
+    ix: &mut [u32],
     q: &mut [u32],
     m: &mut [u64],
 )
@@ -20,6 +21,7 @@ fn clear_all(
     ensures { λ _. ⌜ now (g .exit) ≡ cleared (now (g .entry)) ⌝ }
     ensures { λ _. ⌜ now (p .exit) ≡ cleared (now (p .entry)) ⌝ }
     ensures { λ _. ⌜ now (v .exit) ≡ cleared (now (v .entry)) ⌝ }
+    ensures { λ _. ⌜ now (ix .exit) ≡ cleared (now (ix .entry)) ⌝ }
     ensures { λ _. ⌜ now (q .exit) ≡ cleared (now (q .entry)) ⌝ }
     ensures { λ _. ⌜ now (m .exit) ≡ cleared (now (m .entry)) ⌝ }
 {
@@ -27,6 +29,7 @@ fn clear_all(
     tables::clear(g);
     tables::clear(p);
     tables::clear(v);
+    tables::clear(ix);
     tables::clear(q);
     sizing::clear_rows(m);
 }
@@ -40,19 +43,21 @@ pub fn size(
     g: &mut [u32],
     p: &mut [u32],
     v: &mut [u32],
+    ix: &mut [u32],
     q: &mut [u32],
     m: &mut [u64],
 ) -> Outcome
-    ensures { λ r. ⌜ r ≡ sizedIn (lent (now (a .entry)) (now (g .entry)) (now (p .entry)) (now (v .entry)) (now (q .entry))) (now (m .entry)) (texts (now (schema .entry)) (now (graph .entry)) (now (query .entry))) ⌝ }
+    ensures { λ r. ⌜ r ≡ sizedIn (lent (now (a .entry)) (now (g .entry)) (now (p .entry)) (now (v .entry)) (now (ix .entry)) (now (q .entry))) (now (m .entry)) (texts (now (schema .entry)) (now (graph .entry)) (now (query .entry))) ⌝ }
     ensures { λ _. ⌜ now (a .exit) ≡ cleared (now (a .entry)) ⌝ }
     ensures { λ _. ⌜ now (g .exit) ≡ cleared (now (g .entry)) ⌝ }
     ensures { λ _. ⌜ now (p .exit) ≡ cleared (now (p .entry)) ⌝ }
     ensures { λ _. ⌜ now (v .exit) ≡ cleared (now (v .entry)) ⌝ }
+    ensures { λ _. ⌜ now (ix .exit) ≡ cleared (now (ix .entry)) ⌝ }
     ensures { λ _. ⌜ now (q .exit) ≡ cleared (now (q .entry)) ⌝ }
     ensures { λ _. ⌜ now (m .exit) ≡ cleared (now (m .entry)) ⌝ }
 {
-    let o = response::measure(schema, graph, query, a, g, p, v, q, m);
-    clear_all(a, g, p, v, q, m);
+    let o = response::measure(schema, graph, query, a, g, p, v, ix, q, m);
+    clear_all(a, g, p, v, ix, q, m);
     o
 }
 
@@ -65,21 +70,23 @@ pub fn answer(
     g: &mut [u32],
     p: &mut [u32],
     v: &mut [u32],
+    ix: &mut [u32],
     q: &mut [u32],
     m: &mut [u64],
     room: u32,
     out: &mut [u32],
 ) -> Outcome
-    ensures { λ r. ⌜ r ≡ answeredIn (lent (now (a .entry)) (now (g .entry)) (now (p .entry)) (now (v .entry)) (now (q .entry))) (now (m .entry)) (texts (now (schema .entry)) (now (graph .entry)) (now (query .entry))) room (now (out .entry)) ⌝ }
-    ensures { λ _. ⌜ now (out .exit) ≡ bufferIn (lent (now (a .entry)) (now (g .entry)) (now (p .entry)) (now (v .entry)) (now (q .entry))) (now (m .entry)) (texts (now (schema .entry)) (now (graph .entry)) (now (query .entry))) room (now (out .entry)) ⌝ }
+    ensures { λ r. ⌜ r ≡ answeredIn (lent (now (a .entry)) (now (g .entry)) (now (p .entry)) (now (v .entry)) (now (ix .entry)) (now (q .entry))) (now (m .entry)) (texts (now (schema .entry)) (now (graph .entry)) (now (query .entry))) room (now (out .entry)) ⌝ }
+    ensures { λ _. ⌜ now (out .exit) ≡ bufferIn (lent (now (a .entry)) (now (g .entry)) (now (p .entry)) (now (v .entry)) (now (ix .entry)) (now (q .entry))) (now (m .entry)) (texts (now (schema .entry)) (now (graph .entry)) (now (query .entry))) room (now (out .entry)) ⌝ }
     ensures { λ _. ⌜ now (a .exit) ≡ cleared (now (a .entry)) ⌝ }
     ensures { λ _. ⌜ now (g .exit) ≡ cleared (now (g .entry)) ⌝ }
     ensures { λ _. ⌜ now (p .exit) ≡ cleared (now (p .entry)) ⌝ }
     ensures { λ _. ⌜ now (v .exit) ≡ cleared (now (v .entry)) ⌝ }
+    ensures { λ _. ⌜ now (ix .exit) ≡ cleared (now (ix .entry)) ⌝ }
     ensures { λ _. ⌜ now (q .exit) ≡ cleared (now (q .entry)) ⌝ }
     ensures { λ _. ⌜ now (m .exit) ≡ cleared (now (m .entry)) ⌝ }
 {
-    let o = response::respond(schema, graph, query, a, g, p, v, q, m, room, out);
-    clear_all(a, g, p, v, q, m);
+    let o = response::respond(schema, graph, query, a, g, p, v, ix, q, m, room, out);
+    clear_all(a, g, p, v, ix, q, m);
     o
 }

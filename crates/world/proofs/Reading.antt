@@ -17,6 +17,7 @@ use Rattle.rules.specs.World.{shapeIf}
 use Rattle.rules.specs.declared.FieldNo.{FieldNo}
 use Rattle.rules.specs.declared.TypeNo.{TypeNo}
 use Rattle.tables.specs.Read.{cell, wideAt, numbersAt, namedAt, startsAt, valuesAt, schemaAt}
+use Rattle.index.specs.Index.{ledTo, Linked}
 use Rattle.graph.specs.Held.{PropertiesHeld}
 use Rattle.graph.specs.Faults.{nodesAt, labelIs}
 use Rattle.graph.specs.declared.Named.{Named}
@@ -26,7 +27,7 @@ use Rattle.query.proofs.Cells.{third-at, count-at}
 use Rattle.world.specs.World.{rootAt, askedAt, rowFrom, firstOf, lookupAt, shapeBy, shapeAt, holdsAt}
 use Rattle.world.specs.declared.Property.the-variants.{Row, Nothing}
 use Rattle.world.specs.declared.FieldKind.the-variants.{Scalar, Objects, Object}
-use Rattle.world.proofs.Targets.{rows-past, rows-hit, rows-miss, rows-none, rows-first}
+use Rattle.world.proofs.Targets.{rows-past, rows-hit, rows-miss, rows-none, rows-first, next-rows}
 
 -- ---- the label that an entry asks: its field stands in cell 4
 
@@ -43,16 +44,21 @@ pub row-asked : (a : List ℕ) (base u j w : ℕ) (q : List ℕ) (k : ℕ) (x y 
 row-asked a base u j w q k x y b e s ex ey eb =
     same-node a base u j w (askedAt q k) e (labelIs x) b s ex (eb ∙ ap (sameLabel (labelIs x)) (ey ∙ asked-named q k))
 
--- ---- the loop that looks for the first row from j on: none of the rows before i
+-- ---- the loop that looks for the first row from j on, along a chain: none of the rows before i
 
 module _ (a : List ℕ) (base n u : ℕ) (l : Label) (j i : ℕ) (left : rowFrom a base n u l j ≡ rowFrom a base n u l i) where
   pub from-hit : (b : Bool) → i < n → b ≡ startsAt a base u l i → b ≡ true → i ≡ rowFrom a base n u l j
   unfolding rowFrom
   from-hit b h e t = sym (left ∙ ap (λ (js : List ℕ). getD js 0 n) (rows-hit a base n u l i h (sym e ∙ t)))
 
-  pub from-on : (b : Bool) → i < n → b ≡ startsAt a base u l i → b ≡ false → rowFrom a base n u l j ≡ rowFrom a base n u l (i + 1)
+  from-past : (b : Bool) → i < n → b ≡ startsAt a base u l i → b ≡ false → rowFrom a base n u l j ≡ rowFrom a base n u l (i + 1)
   unfolding rowFrom
-  from-on b h e t = left ∙ ap (λ (js : List ℕ). getD js 0 n) (rows-miss a base n u l i h (sym e ∙ t))
+  from-past b h e t = left ∙ ap (λ (js : List ℕ). getD js 0 n) (rows-miss a base n u l i h (sym e ∙ t))
+
+  -- r is the next row of the chain
+  pub from-on : (x : List ℕ) (at : ℕ) (b : Bool) (r : ℕ) → Linked a base n x at → i < n → b ≡ startsAt a base u l i → b ≡ false
+      → wideAt a base i 2 ≡ u → r ≡ ledTo n (cell x (at + 512 + i)) → rowFrom a base n u l j ≡ rowFrom a base n u l r
+  from-on x at b r k h e t s f = from-past b h e t ∙ next-rows a base n x at k u i h s r f l
 
   pub from-end : n ≤ i → n ≡ rowFrom a base n u l j
   unfolding rowFrom

@@ -4,25 +4,30 @@ use native.Mathlib.Omega.{arith}
 use native.Mathlib.Decide.{decLt}
 use native.Mathlib.Numerals.{add-one}
 use mathlib.Core.Path.{_≡_, refl, sym, ap, _∙_, subst}
-use mathlib.Core.Bool.{Bool, true, false, false≢true}
+use mathlib.Core.Bool.{Bool, true, false, cond, false≢true}
 use mathlib.Core.List.{List, [], _∷_, map}
-use lib.Dec.{eqb}
+use lib.Dec.{eqb, ltb}
 use lib.ListN.{length, getD, length-map}
 use borrow.Author.Tests.{eq-eqb, eqb-true, eqb-false}
 use Rattle.rules.specs.Lists.{those, keepIf, countUp}
-use Rattle.rules.specs.Graph.{Label}
+use Rattle.rules.specs.Graph.{Label, sameLabel}
 use Rattle.rules.specs.Tree.{Asks, field, on}
 use Rattle.rules.specs.Eval.{next}
-use Rattle.rules.proofs.Bools.{and-true}
+use Rattle.rules.proofs.Bools.{and-true, and-true-left}
 use Rattle.rules.proofs.Labels.{same-label}
 use Rattle.rules.proofs.Sums.{Below}
 use Rattle.rules.proofs.Size.{Closed}
 use Rattle.rules.specs.declared.FieldNo.{FieldNo}
 use Rattle.rules.specs.declared.TypeNo.{TypeNo}
+use Rattle.tables.proofs.Those.{those-those}
 use Rattle.tables.specs.Read.{cell, wideAt, startsAt, labelAt, targetsAt, foundAt, graphAt}
+use Rattle.index.specs.Index.{ledTo, ownFrom, chain, Linked}
+use Rattle.index.proofs.Firsts.{first-past, first-passes}
+use Rattle.index.proofs.Links.{own-skip}
+use Rattle.index.proofs.Chains.{first-own, next-own, chain-own}
 use Rattle.graph.specs.Held.{NodesHeld, PropertiesHeld}
 use Rattle.graph.specs.Faults.{nodesAt}
-use Rattle.world.specs.World.{worldAt, EdgesHeld, TableHeld, rowsFrom, rowFrom, edgeFrom, targetsFrom, firstOf, lookupAt, foundBy, shapeAt, holdsAt}
+use Rattle.world.specs.World.{worldAt, EdgesHeld, TableHeld, rowsFrom, rowFrom, edgeFrom, targetsFrom, targetsBy, firstOf, lookupAt, foundBy, shapeAt, holdsAt}
 use Rattle.world.specs.declared.Property.the-variants.{Row}
 
 -- ---- tables
@@ -63,15 +68,6 @@ module _ (p : ℕ → Bool) (n : ℕ) where
           let z : k ≡ n - (j + 1) = omega arith in
           ap (λ (m : ℕ). j ∷ from (suc j) m) z ∙ ap (λ (i : ℕ). j ∷ from i (n - (j + 1))) (sym (add-one j))
       go ih false x = ih x
-
-  first-past : (k j : ℕ) → n - j ≡ k → firstFrom j k < n → j ≤ firstFrom j k
-  first-past zero j e h = absurd (omega arith)
-  first-past (suc k) j e h = go (λ x. first-past k (suc j) (omega arith) x) (p j) h
-    where
-      go : (firstFrom (suc j) k < n → suc j ≤ firstFrom (suc j) k) → (b : Bool) → getD (keepIf b j (from (suc j) k)) 0 n < n
-          → j ≤ getD (keepIf b j (from (suc j) k)) 0 n
-      go ih true x = omega arith
-      go ih false x = omega (arith, ih x)
 
   few : (k j : ℕ) → length (from j k) ≤ k
   few zero j = omega arith
@@ -137,6 +133,33 @@ module _ (a : List ℕ) (base n u : ℕ) (l : Label) where
   unfolding rowsFrom rowFrom
   row-on j h = first-past (startsAt a base u l) n (n - j) j refl h
 
+  -- the first row is of the node; from j on the rows are those from the node's first row on
+  pub row-node : (j : ℕ) → rowFrom a base n u l j < n → wideAt a base (rowFrom a base n u l j) 2 ≡ u
+  unfolding rowFrom rowsFrom startsAt
+  row-node j h =
+      let r = rowFrom a base n u l j in
+      eqb-true (wideAt a base r 2) u
+      (and-true-left (eqb (wideAt a base r 2) u) (sameLabel (labelAt a base r) l) (first-passes (startsAt a base u l) n (n - j) j refl h))
+
+  pub rows-skip : (j : ℕ) → rowFrom a base n u l j ≡ rowFrom a base n u l (ownFrom a base n u j)
+  unfolding rowFrom rowsFrom startsAt
+  rows-skip j =
+      ap (λ (js : List ℕ). getD js 0 n) (own-skip a base n u j (startsAt a base u l)
+      (λ i t. eqb-true (wideAt a base i 2) u (and-true-left (eqb (wideAt a base i 2) u) (sameLabel (labelAt a base i) l) t)))
+
+-- ---- along a chain: entered at its head, and behind row j of it
+
+module _ (a : List ℕ) (base n : ℕ) (x : List ℕ) (at : ℕ) (linked : Linked a base n x at) (u : ℕ) where
+  pub head-rows : (r : ℕ) → r ≡ cond (ltb u 512) (ledTo n (cell x (at + u))) n → (l : Label) (e : ℕ) → e ≡ rowFrom a base n u l r
+      → e ≡ rowFrom a base n u l 0
+  head-rows r is l e f =
+      f ∙ ap (rowFrom a base n u l) (first-own a base n x at linked u r is) ∙ sym (rows-skip a base n u l 0)
+
+  pub next-rows : (j : ℕ) → j < n → wideAt a base j 2 ≡ u → (r : ℕ) → r ≡ ledTo n (cell x (at + 512 + j)) → (l : Label)
+      → rowFrom a base n u l (j + 1) ≡ rowFrom a base n u l r
+  next-rows j inside node r is l =
+      rows-skip a base n u l (j + 1) ∙ ap (rowFrom a base n u l) (sym (next-own a base n x at linked u j inside node r is))
+
 -- ---- the targets, edge by edge: e is the first matching edge from edge j on
 
 module _ (g : List ℕ) (u : ℕ) (l : Label) where
@@ -161,6 +184,11 @@ module _ (g : List ℕ) (u : ℕ) (l : Label) where
     unfolding edgeFrom
     edge-on h = omega (arith, is, row-on g 1544 (cell g 1) u l j (omega (arith, is)))
 
+  -- it starts at the node
+  pub edge-node : (j e : ℕ) → e ≡ edgeFrom g u l j → e < cell g 1 → wideAt g 1544 e 2 ≡ u
+  unfolding edgeFrom
+  edge-node j e is h = ap (λ (i : ℕ). wideAt g 1544 i 2) is ∙ row-node g 1544 (cell g 1) u l j (omega (arith, is))
+
   -- the edges left become fewer
   pub edges-fewer : (e e′ : ℕ) → e < cell g 1 → e′ ≡ edgeFrom g u l (e + 1) → cell g 1 - e′ < cell g 1 - e
   edges-fewer e e′ h f = go (decLt e′ (cell g 1))
@@ -175,6 +203,16 @@ module _ (g : List ℕ) (u : ℕ) (l : Label) where
   targets-few j =
       let es = those (startsAt g 1544 u l) (countUp j (cell g 1 - j)) in
       omega (arith, length-map es (λ e. wideAt g 1544 e 4), few (startsAt g 1544 u l) (cell g 1) (cell g 1 - j) j)
+
+  -- The targets along the chain of a node are its targets.
+  pub by-index : (x : List ℕ) → Linked g 1544 (cell g 1) x 0 → u < 512 → targetsBy g x u l ≡ targetsAt g u l
+  unfolding targetsBy targetsAt startsAt
+  by-index x k h =
+      let n = cell g 1 in
+      let z : u ≡ 0 + u = omega arith in
+      ap (λ (i : ℕ). map (λ e. wideAt g 1544 e 4) (those (λ e. sameLabel (labelAt g 1544 e) l) (chain x 0 n n (ledTo n (cell x i))))) z
+      ∙ ap (λ (js : List ℕ). map (λ e. wideAt g 1544 e 4) (those (λ e. sameLabel (labelAt g 1544 e) l) js)) (chain-own g 1544 n x 0 k u h)
+      ∙ ap (map (λ e. wideAt g 1544 e 4)) (those-those (λ e. eqb (wideAt g 1544 e 2) u) (λ e. sameLabel (labelAt g 1544 e) l) (countUp 0 n))
 
 -- ---- the property
 
@@ -235,7 +273,7 @@ module _ (a g p v : List ℕ) where
   world-next (on t) u = refl
 
   -- edges that lead to nodes, told of the World and of the table
-  pub ends-closed : EdgesHeld g → Closed (worldAt a g p v)
+  pub ends-closed : {x : List ℕ} → EdgesHeld g x → Closed (worldAt a g p v)
   unfolding worldAt graphAt targetsAt
   ends-closed h =
       record {

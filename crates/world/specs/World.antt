@@ -5,7 +5,7 @@ use lib.ListN.{length, getD}
 use Rattle.rules.specs.Lists.{those, countUp}
 use Rattle.rules.specs.Query.{asked}
 use Rattle.rules.specs.Text.{pairsOf}
-use Rattle.rules.specs.Graph.{Label, Found, nothing, one, many}
+use Rattle.rules.specs.Graph.{Label, sameLabel, Found, nothing, one, many}
 use Rattle.rules.specs.Tree.{Asks, Entry, asksOf}
 use Rattle.rules.specs.World.{World, world, Shape, scalar, list, single, queryNode}
 use Rattle.rules.specs.declared.FieldNo.{FieldNo}
@@ -13,7 +13,8 @@ use Rattle.rules.specs.declared.TypeNo.{TypeNo}
 use Rattle.rules.specs.Eval.{next}
 use mathlib.Core.Bool.{Bool, cond}
 use lib.Dec.{eqb}
-use Rattle.tables.specs.Read.{cell, wideAt, schemaAt, startsAt, valuesAt, graphAt}
+use Rattle.tables.specs.Read.{cell, wideAt, labelAt, schemaAt, startsAt, valuesAt, graphAt}
+use Rattle.index.specs.Index.{ledTo, chain, Linked}
 use Rattle.schema.specs.Held.{SchemaHeld}
 use Rattle.graph.specs.Held.{NodesHeld, PropertiesHeld}
 use Rattle.graph.specs.Faults.{nodesAt}
@@ -32,19 +33,22 @@ worldAt a g p v = world (schemaAt a) (graphAt g p v)
 unfoldable pub rootAt : List ℕ → List ℕ → ℕ
 rootAt a g = queryNode (schemaAt a) (nodesAt g)
 
--- Areas that evaluation can read: nodes and edges of which every edge leads to a node, a schema, properties and their values.
-pub record EdgesHeld (g : List ℕ) : Type 0 where
+-- Areas that evaluation can read: nodes and edges of which every edge leads to a node, with their links; a schema; properties, with
+-- their links, and their values.
+pub record EdgesHeld (g x : List ℕ) : Type 0 where
   pub nodes : NodesHeld g
   pub ends : (e : ℕ) → e < cell g 1 → wideAt g 1544 e 4 < cell g 0
+  pub links : Linked g 1544 (cell g 1) x 0
 
-pub record GraphHeld (a g : List ℕ) : Type 0 where
+pub record GraphHeld (a g x : List ℕ) : Type 0 where
   pub schema : SchemaHeld a
-  pub edges : EdgesHeld g
+  pub edges : EdgesHeld g x
 
-pub record WorldHeld (a g p v : List ℕ) : Type 0 where
-  pub graph : GraphHeld a g
+pub record WorldHeld (a g p v x : List ℕ) : Type 0 where
+  pub graph : GraphHeld a g x
   pub properties : PropertiesHeld p v
   pub values : length v ≤ 8200
+  pub own : Linked p 8 (cell p 0) x 1536
 
 -- ---- what an entry of the query asks
 
@@ -85,6 +89,12 @@ edgeFrom g u l j = rowFrom g 1544 (cell g 1) u l j
 
 unfoldable pub targetsFrom : List ℕ → ℕ → Label → ℕ → List ℕ
 targetsFrom g u l j = map (λ e. wideAt g 1544 e 4) (rowsFrom g 1544 (cell g 1) u l j)
+
+-- the targets along the chain of node u
+unfoldable pub targetsBy : List ℕ → List ℕ → ℕ → Label → List ℕ
+targetsBy g x u l =
+    let es = chain x 0 (cell g 1) (cell g 1) (ledTo (cell g 1) (cell x u)) in
+    map (λ e. wideAt g 1544 e 4) (those (λ e. sameLabel (labelAt g 1544 e) l) es)
 
 -- ---- "A property lookup either finds one value row or answers that there is none"
 

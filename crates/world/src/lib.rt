@@ -4,10 +4,11 @@ ghost use Prim.Native.Nat.{_+_, _*_, _-_, _≤_, _<_};
 ghost use lib.ListN.{length, getD};
 ghost use lib.Dec.{eqb};
 ghost use Rattle.tables.specs.Read.{cell, wideAt, startsAt, valuesAt};
+ghost use Rattle.index.specs.Index.{Linked, OnChain};
 ghost use Rattle.schema.specs.Held.{SchemaHeld};
 ghost use Rattle.graph.specs.Held.{NodesHeld, PropertiesHeld};
 ghost use Rattle.query.specs.Entries.{QueryHeld};
-ghost use Rattle.world.specs.World.{rootAt, askedAt, TableHeld, rowFrom, edgeFrom, lookupAt, shapeBy, shapeAt, holdsAt};
+ghost use Rattle.world.specs.World.{rootAt, askedAt, EdgesHeld, TableHeld, rowFrom, edgeFrom, lookupAt, shapeBy, shapeAt, holdsAt};
 use rules::FieldNo;
 use rules::TypeNo;
 
@@ -38,31 +39,57 @@ fn matches(a: &[u32], base: usize, n: usize, q: &[u32], k: usize, u: u32, j: usi
     false
 }
 
-// The first row from j on that is of node u and has the label that entry k asks; n where there is none.
-fn row_from(a: &[u32], base: usize, n: usize, q: &[u32], k: usize, u: u32, j: usize) -> usize
+// The first row, from row i on along the chain of node u, that has the label that entry k asks; n where there is none.
+fn row_along(
+    a: &[u32],
+    base: usize,
+    n: usize,
+    ix: &[u32],
+    at: usize,
+    q: &[u32],
+    k: usize,
+    u: u32,
+    i: usize,
+) -> usize
     requires { ⌜ TableHeld (now a) base n ⌝ }
+    requires { ⌜ Linked (now a) base n (now ix) at ⌝ }
     requires { ⌜ QueryHeld (now q) ⌝ }
     requires { ⌜ k < cell (now q) 0 ⌝ }
-    ensures { λ r. ⌜ r ≡ rowFrom (now (a .entry)) base n u (askedAt (now (q .entry)) k) j ⌝ }
+    requires { ⌜ OnChain (now a) base n u i ⌝ }
+    ensures { λ r. ⌜ r ≡ rowFrom (now (a .entry)) base n u (askedAt (now (q .entry)) k) i ⌝ }
 {
-    let mut i = j;
-    while i < n {
-        if matches(a, base, n, q, k, u, i) {
-            return i;
+    let mut j = i;
+    while j < n {
+        if matches(a, base, n, q, k, u, j) {
+            return j;
         }
-        i += 1;
+        j = index::next_row(ix, at, n, j);
     }
     n
 }
 
-// The targets of entry k at node u, edge by edge: the first matching edge from edge j on; the count of the edges where there is none.
-pub fn edge_from(g: &[u32], q: &[u32], k: usize, u: u32, j: usize) -> usize
-    requires { ⌜ NodesHeld (now g) ⌝ }
+// The targets of entry k at node u, edge by edge: the first matching edge; the count of the edges where there is none.
+pub fn first_edge(g: &[u32], ix: &[u32], q: &[u32], k: usize, u: u32) -> usize
+    requires { ⌜ EdgesHeld (now g) (now ix) ⌝ }
     requires { ⌜ QueryHeld (now q) ⌝ }
     requires { ⌜ k < cell (now q) 0 ⌝ }
-    ensures { λ r. ⌜ r ≡ edgeFrom (now (g .entry)) u (askedAt (now (q .entry)) k) j ⌝ }
+    ensures { λ r. ⌜ r ≡ edgeFrom (now (g .entry)) u (askedAt (now (q .entry)) k) 0 ⌝ }
 {
-    row_from(g, 1544, g[1] as usize, q, k, u, j)
+    let n = g[1] as usize;
+    row_along(g, 1544, n, ix, 0, q, k, u, index::first_row(ix, 0, n, u))
+}
+
+// The first matching edge behind edge e, which starts at u.
+pub fn edge_after(g: &[u32], ix: &[u32], q: &[u32], k: usize, u: u32, e: usize) -> usize
+    requires { ⌜ EdgesHeld (now g) (now ix) ⌝ }
+    requires { ⌜ QueryHeld (now q) ⌝ }
+    requires { ⌜ k < cell (now q) 0 ⌝ }
+    requires { ⌜ e < cell (now g) 1 ⌝ }
+    requires { ⌜ wideAt (now g) 1544 e 2 ≡ u ⌝ }
+    ensures { λ r. ⌜ r ≡ edgeFrom (now (g .entry)) u (askedAt (now (q .entry)) k) (e + 1) ⌝ }
+{
+    let n = g[1] as usize;
+    row_along(g, 1544, n, ix, 0, q, k, u, index::next_row(ix, 0, n, e))
 }
 
 // The target of edge e.
@@ -75,14 +102,15 @@ pub fn target(g: &[u32], e: usize) -> u32
 }
 
 // The property of node u with the label that entry k asks.
-pub fn lookup(p: &[u32], q: &[u32], k: usize, u: u32) -> Property
+pub fn lookup(p: &[u32], ix: &[u32], q: &[u32], k: usize, u: u32) -> Property
     requires { ⌜ TableHeld (now p) 8 (cell (now p) 0) ⌝ }
+    requires { ⌜ Linked (now p) 8 (cell (now p) 0) (now ix) 1536 ⌝ }
     requires { ⌜ QueryHeld (now q) ⌝ }
     requires { ⌜ k < cell (now q) 0 ⌝ }
     ensures { λ r. ⌜ r ≡ lookupAt (now (p .entry)) u (askedAt (now (q .entry)) k) ⌝ }
 {
     let n = p[0] as usize;
-    let j = row_from(p, 8, n, q, k, u, 0);
+    let j = row_along(p, 8, n, ix, 1536, q, k, u, index::first_row(ix, 1536, n, u));
     if j < n {
         return Property::Row(j);
     }

@@ -16,7 +16,7 @@ pub struct Case {
     pub kind: &'static str,
     pub damaged: bool,
     pub texts: [Vec<u8>; 3],
-    pub lengths: [usize; 6],
+    pub lengths: [usize; 7],
     /// Numbers on each side of every area and of the buffer, which no call may change. None where the allocation itself is the
     /// limit, so that valgrind sees a step beyond it.
     pub margin: usize,
@@ -95,9 +95,9 @@ fn damage(random: &mut Random, lines: &mut Lines) {
 }
 
 /// Lengths of the areas: as needed, or longer, or one of them too short.
-fn random_lengths(random: &mut Random) -> [usize; 6] {
+fn random_lengths(random: &mut Random) -> [usize; 7] {
     let mut lengths = NEEDED_LENGTHS;
-    let area = random.below(6);
+    let area = random.below(7);
     match random.below(100) {
         0..3 => lengths[area] -= 1,
         3 => lengths[area] = random.below(lengths[area]),

@@ -51,8 +51,8 @@ fn random_answer(random: &mut Random, size: u32, around: bool) -> Call {
 
 /// One call to both.
 fn compare(case: &Case, call: Call, random: &mut Random) -> Result<Outcome, String> {
-    let mut areas = [0, 1, 2, 3, 4].map(|area| Lent::<u32>::filled(random, case.lengths[area], case.margin));
-    let mut rows = Lent::<u64>::filled(random, case.lengths[5], case.margin);
+    let mut areas = [0, 1, 2, 3, 4, 5].map(|area| Lent::<u32>::filled(random, case.lengths[area], case.margin));
+    let mut rows = Lent::<u64>::filled(random, case.lengths[6], case.margin);
     let length = if let Call::Answer { length, .. } = call { length } else { 0 };
     let mut buffer = Lent::<u32>::filled(random, length, case.margin);
     let (expected, response) = independently(case, call, buffer.inside());
@@ -79,11 +79,11 @@ fn independently(case: &Case, call: Call, buffer: &[u32]) -> (Outcome, Vec<u32>)
     }
 }
 
-fn by_library(case: &Case, call: Call, areas: &mut [Lent<u32>; 5], rows: &mut Lent<u64>, buffer: &mut Lent<u32>) -> Outcome {
+fn by_library(case: &Case, call: Call, areas: &mut [Lent<u32>; 6], rows: &mut Lent<u64>, buffer: &mut Lent<u32>) -> Outcome {
     let [schema, graph, query] = &case.texts;
     let texts = Texts { schema, graph, query };
-    let [a, g, p, v, q] = areas.each_mut().map(Lent::inside_mut);
-    let lent = LentAreas { schema: a, nodes: g, properties: p, values: v, query: q, rows: rows.inside_mut() };
+    let [a, g, p, v, x, q] = areas.each_mut().map(Lent::inside_mut);
+    let lent = LentAreas { schema: a, nodes: g, properties: p, values: v, index: x, query: q, rows: rows.inside_mut() };
     let outcome = match call {
         Call::Size => sodgravel::size(texts, lent),
         Call::Answer { room, .. } => sodgravel::answer(texts, lent, room, buffer.inside_mut()),

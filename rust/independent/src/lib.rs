@@ -19,9 +19,10 @@ use measure::Measure;
 use query::Query;
 use schema::Schema;
 
-/// How long each work area has to be, in its own numbers: schema, nodes and edges, properties, values, query, rows.
+/// How long each work area has to be, in its own numbers: schema, nodes and edges, properties, values, index,
+/// query, rows.
 /// From docs/AREAS.md; the independent implementation needs no areas, it only judges their lengths.
-pub const NEEDED_LENGTHS: [usize; 6] = [9_992, 15_880, 14_344, 8_200, 3_592, 8_192];
+pub const NEEDED_LENGTHS: [usize; 7] = [9_992, 15_880, 14_344, 8_200, 3_072, 3_592, 8_192];
 
 /// The largest room that can be given.
 pub const LARGEST_ROOM: u32 = 16_384;
@@ -43,7 +44,7 @@ struct Accepted {
 }
 
 /// The call that sizes a query.
-pub fn size(schema: &[u8], graph: &[u8], query: &[u8], area_lengths: [usize; 6]) -> Outcome {
+pub fn size(schema: &[u8], graph: &[u8], query: &[u8], area_lengths: [usize; 7]) -> Outcome {
     size_with(Care::Twice, schema, graph, query, area_lengths)
 }
 
@@ -52,7 +53,7 @@ pub fn answer(
     schema: &[u8],
     graph: &[u8],
     query: &[u8],
-    area_lengths: [usize; 6],
+    area_lengths: [usize; 7],
     room: u32,
     buffer: &[u32],
 ) -> (Outcome, Vec<u32>) {
@@ -62,7 +63,7 @@ pub fn answer(
 }
 
 /// `size`, with the care to take.
-pub fn size_with(care: Care, schema: &[u8], graph: &[u8], query: &[u8], area_lengths: [usize; 6]) -> Outcome {
+pub fn size_with(care: Care, schema: &[u8], graph: &[u8], query: &[u8], area_lengths: [usize; 7]) -> Outcome {
     let measured = judge(schema, graph, query, area_lengths).map(|accepted| accepted.measure(care));
     match measured {
         Ok(measure) => Outcome::accepted(measure.shown_size(), measure.visits),
@@ -76,7 +77,7 @@ pub fn answer_with(
     schema: &[u8],
     graph: &[u8],
     query: &[u8],
-    area_lengths: [usize; 6],
+    area_lengths: [usize; 7],
     room: u32,
     buffer: &mut [u32],
 ) -> Outcome {
@@ -90,7 +91,7 @@ pub fn answer_with(
 }
 
 /// Checks 2 to 34, in ascending order.
-fn judge(schema: &[u8], graph: &[u8], query: &[u8], area_lengths: [usize; 6]) -> Result<Accepted, Refusal> {
+fn judge(schema: &[u8], graph: &[u8], query: &[u8], area_lengths: [usize; 7]) -> Result<Accepted, Refusal> {
     let short = |(length, needed): (&usize, &usize)| length < needed;
     if area_lengths.iter().zip(&NEEDED_LENGTHS).any(short) {
         return Err(Refusal { number: 2, place: 0 });

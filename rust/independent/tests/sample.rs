@@ -55,7 +55,7 @@ fn rooms_buffers_and_areas() {
         assert_eq!(answered(GRAPH, QUERY, room, length), (too_long, vec![7; length]));
     }
     assert_eq!(answered(GRAPH, QUERY, 16_385, 5), (no(1, 0), vec![7; 5]));
-    for area in 0..6 {
+    for area in 0..NEEDED_LENGTHS.len() {
         let mut lengths = NEEDED_LENGTHS;
         lengths[area] -= 1;
         assert_eq!(size(b"", b"", b"", lengths), no(2, 0));

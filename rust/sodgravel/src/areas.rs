@@ -2,8 +2,9 @@
 
 use crate::{answer, size, Outcome, Texts};
 
-/// How long each area has to be, in its own numbers: schema, nodes and edges, properties, values, query, rows.
-pub const NEEDED_LENGTHS: [usize; 6] = [9_992, 15_880, 14_344, 8_200, 3_592, 8_192];
+/// How long each area has to be, in its own numbers: schema, nodes and edges, properties, values, index, query,
+/// rows.
+pub const NEEDED_LENGTHS: [usize; 7] = [9_992, 15_880, 14_344, 8_200, 3_072, 3_592, 8_192];
 
 /// Areas of the needed lengths, to be used for any number of calls. What they hold makes no difference to a call, and after
 /// every call they hold zeros.
@@ -12,6 +13,7 @@ pub struct Areas {
     nodes: Vec<u32>,
     properties: Vec<u32>,
     values: Vec<u32>,
+    index: Vec<u32>,
     query: Vec<u32>,
     rows: Vec<u64>,
 }
@@ -22,6 +24,7 @@ pub struct LentAreas<'a> {
     pub nodes: &'a mut [u32],
     pub properties: &'a mut [u32],
     pub values: &'a mut [u32],
+    pub index: &'a mut [u32],
     pub query: &'a mut [u32],
     pub rows: &'a mut [u64],
 }
@@ -34,12 +37,13 @@ impl Default for Areas {
 
 impl Areas {
     pub fn new() -> Areas {
-        let [schema, nodes, properties, values, query, rows] = NEEDED_LENGTHS;
+        let [schema, nodes, properties, values, index, query, rows] = NEEDED_LENGTHS;
         Areas {
             schema: vec![0; schema],
             nodes: vec![0; nodes],
             properties: vec![0; properties],
             values: vec![0; values],
+            index: vec![0; index],
             query: vec![0; query],
             rows: vec![0; rows],
         }
@@ -51,6 +55,7 @@ impl Areas {
             nodes: &mut self.nodes,
             properties: &mut self.properties,
             values: &mut self.values,
+            index: &mut self.index,
             query: &mut self.query,
             rows: &mut self.rows,
         }

@@ -57,13 +57,14 @@ fn c_name(refusal: Refusal) -> String {
 
 /// The same constants as the Rust crate has them, under the header's names.
 fn rust_constants() -> BTreeMap<String, u32> {
-    let [schema, nodes, properties, values, query, rows] = NEEDED_LENGTHS.map(|length| length as u32);
+    let [schema, nodes, properties, values, index, query, rows] = NEEDED_LENGTHS.map(|length| length as u32);
     let named = [
         ("ACCEPTED", 0),
         ("SCHEMA_AREA", schema),
         ("NODES_AREA", nodes),
         ("PROPERTIES_AREA", properties),
         ("VALUES_AREA", values),
+        ("INDEX_AREA", index),
         ("QUERY_AREA", query),
         ("ROWS_AREA", rows),
         ("MAXIMUM_TEXT", LONGEST_TEXT as u32),
@@ -88,7 +89,8 @@ fn every_constant_of_the_header_is_the_crates() {
 
 /// The parameters of the functions below, as C writes them.
 const PARAMETERS: &str = "const uint8_t *, size_t, const uint8_t *, size_t, const uint8_t *, size_t, \
-    uint32_t *, size_t, uint32_t *, size_t, uint32_t *, size_t, uint32_t *, size_t, uint32_t *, size_t, uint64_t *, size_t";
+    uint32_t *, size_t, uint32_t *, size_t, uint32_t *, size_t, uint32_t *, size_t, uint32_t *, size_t, uint32_t *, size_t, \
+    uint64_t *, size_t";
 
 /// A C program that includes the header, takes each function at its type and prints layout and constants.
 fn c_program() -> String {
@@ -151,14 +153,36 @@ type Bytes = *const u8;
 type Area = *mut u32;
 type Rows = *mut u64;
 type L = usize;
-type Size =
-    unsafe extern "C" fn(Bytes, L, Bytes, L, Bytes, L, Area, L, Area, L, Area, L, Area, L, Area, L, Rows, L) -> RawOutcome;
+type Size = unsafe extern "C" fn(
+    Bytes,
+    L,
+    Bytes,
+    L,
+    Bytes,
+    L,
+    Area,
+    L,
+    Area,
+    L,
+    Area,
+    L,
+    Area,
+    L,
+    Area,
+    L,
+    Area,
+    L,
+    Rows,
+    L,
+) -> RawOutcome;
 type Answer = unsafe extern "C" fn(
     Bytes,
     L,
     Bytes,
     L,
     Bytes,
+    L,
+    Area,
     L,
     Area,
     L,

@@ -22,11 +22,14 @@ slice-aggregate-answer-5 c = search needs
 slice-aggregate-answer-6 : tie.Need-slice-aggregate-answer-6
 slice-aggregate-answer-6 c = search needs
 
+slice-aggregate-answer-7 : tie.Need-slice-aggregate-answer-7
+slice-aggregate-answer-7 c = search needs
+
 cast-answer : tie.Need-cast-answer
 cast-answer c = search needs
 
-slice-aggregate-answer-7 : tie.Need-slice-aggregate-answer-7
-slice-aggregate-answer-7 c = search needs
+slice-aggregate-answer-8 : tie.Need-slice-aggregate-answer-8
+slice-aggregate-answer-8 c = search needs
 
 answer-requires : tie.Need-answer-requires
 answer-requires c κs = search needs
@@ -45,7 +48,7 @@ slice-aggregate-print-response c = search needs
 
 print-response-requires : tie.Need-print-response-requires
 print-response-requires c κs =
-    let t = c .before .before .before .before .before .before .before .before .before .before .before .answer in
+    let t = c .before .before .before .before .before .before .before .before .before .before .before .before .answer in
     accepted-fits _ _ _ _ _ _ _ (t .ensures .0) (t .ensures .1 .0) (c .before .before .if1 .left)
 
 returns-2 : tie.Need-returns-2
@@ -61,8 +64,9 @@ answer-texts-spec =
     slice-aggregate-answer-4
     slice-aggregate-answer-5
     slice-aggregate-answer-6
-    cast-answer
     slice-aggregate-answer-7
+    cast-answer
+    slice-aggregate-answer-8
     answer-requires
     print-refusal-requires
     returns

@@ -12,10 +12,10 @@ use Rattle.judge.proofs.judge.Tie as tie
 
 -- the start of the function, and the areas lent there
 abbrev start : tie.After-short → tie.Start
-start c = c .before .before .before .before .before .before .before .before .before .before .before .before .before .before
+start c = c .before .before .before .before .before .before .before .before .before .before .before .before .before .before .before .before
 
 abbrev work : tie.Start → Lent
-work o = lent (o .args .a .now) (o .args .g .now) (o .args .p .now) (o .args .v .now) (o .args .q .now)
+work o = lent (o .args .a .now) (o .args .g .now) (o .args .p .now) (o .args .v .now) (o .args .ix .now) (o .args .q .now)
 
 -- past the test none of them is too short
 enough : (c : tie.Else1) → tooShortOf (work (start (c .before))) ≡ false
@@ -45,17 +45,17 @@ values-lent c = simp (values-needed (c .before .before .before .before))
 asks-texts : tie.Need-judge-texts-requires
 unfolding lent
 asks-texts c κs =
-    let here = c .before .before .before .before .before in
+    let here = c .before .before .before .before .before .before in
     let h = long here in
-    (h .schema, (h .nodes, (h .properties, (values-needed here, h .query))))
+    (h .schema, (h .nodes, (h .properties, (values-needed here, (h .index, h .query)))))
 
 returns-texts : tie.Need-returns-2
 unfolding lent
 returns-texts c =
-    let texts = c .before .before .before .before .before .before .before .before .before .before in
-    let here = texts .before .before .before .before .before .before in
+    let texts = c .before .before .before .before .before .before .before .before .before .before .before .before in
+    let here = texts .before .before .before .before .before .before .before in
     let o = start (here .before) in
-    widened (o .args .schema .now) (o .args .graph .now) (o .args .query .now) _ _ _ (o .args .v .now) _ _ _ _ _ _ _ _
+    widened (o .args .schema .now) (o .args .graph .now) (o .args .query .now) _ _ _ (o .args .v .now) _ _ _ _ _ _ _ _ _ _
     (enough here) (texts .judge-texts .kept .1 .1 .1 .1 .1 .1 .0 ∙ values-needed here) (texts .judge-texts .ensures)
 
 pub judge-spec : {M : Type 1} → statement M
@@ -70,10 +70,12 @@ judge-spec =
     (λ c. search needs)
     (λ c. search needs)
     (λ c. search needs)
+    (λ c. search needs)
     returns-short
     lends-values
     values-lent
     asks-texts
+    (λ c. search needs)
     (λ c. search needs)
     (λ c. search needs)
     (λ c. search needs)

@@ -11,23 +11,23 @@ use Rattle.response.proofs.measure.Tie as tie
 
 -- from the test of the verdict to the judging, and to the test of the rows; and from the end to the test of the verdict
 abbrev judging : tie.After-struct-known → tie.After-judge
-judging c = c .before .before .before .before .before .before .before .before .before .before .before
+judging c = c .before .before .before .before .before .before .before .before .before .before .before .before .before
 
 abbrev test : tie.After-struct-known → tie.Else1
-test c = judging c .before .before .before .before .before .before
+test c = judging c .before .before .before .before .before .before .before
 
 abbrev start : tie.After-struct-known → tie.Start
-start c = test c .before .before .before .before .before .before .before .before .before .before
+start c = test c .before .before .before .before .before .before .before .before .before .before .before
 
-abbrev sized : tie.After-slice-known12 → tie.After-struct-known
-sized c = c .before .before .before .before .before .before .before .before .before .before
+abbrev sized : tie.After-slice-known14 → tie.After-struct-known
+sized c = c .before .before .before .before .before .before .before .before .before .before .before
 
 refuse-requires : tie.Need-refuse-requires
 refuse-requires c κs = tt
 
 returns : tie.Need-returns
 returns c =
-    let m = c .before .before .before .before .before .before .before .before .before .before .before .args .m .now in
+    let m = c .before .before .before .before .before .before .before .before .before .before .before .before .args .m .now in
     measured-short _ _ _ m _ (omega (arith, c .before .if1 .taken)) (c .refuse .ensures)
 
 judge-requires : tie.Need-judge-requires
@@ -47,6 +47,9 @@ same-length-4 c = judging (c .before) .judge .kept .1 .1 .1 .1 .1 .1 .0
 
 same-length-5 : tie.Need-same-length-5
 same-length-5 c = judging (c .before) .judge .kept .1 .1 .1 .1 .1 .1 .1 .0
+
+same-length-6 : tie.Need-same-length-6
+same-length-6 c = judging (c .before) .judge .kept .1 .1 .1 .1 .1 .1 .1 .1 .0
 
 returns-2 : tie.Need-returns-2
 unfolding lent
@@ -75,33 +78,36 @@ slice-aggregate-size-query c =
 size-query-requires : tie.Need-size-query-requires
 unfolding lent
 size-query-requires c κs =
-    let d = c .before .before .before .before .before .before in
+    let d = c .before .before .before .before .before .before .before in
     let y = readable _ _ _ _ (judging (d .before) .judge .ensures) (d .if2 .left) in
     (y .held, (y .steps, (y .root, omega (arith, test (d .before) .if1 .left))))
 
-same-length-6 : tie.Need-same-length-6
-same-length-6 c = judging (sized c) .judge .kept .1 .1 .1 .0
-
 same-length-7 : tie.Need-same-length-7
-same-length-7 c = judging (sized c) .judge .kept .1 .1 .1 .1 .0
+same-length-7 c = judging (sized c) .judge .kept .1 .1 .1 .0
 
 same-length-8 : tie.Need-same-length-8
-same-length-8 c = judging (sized c) .judge .kept .1 .1 .1 .1 .1 .0
+same-length-8 c = judging (sized c) .judge .kept .1 .1 .1 .1 .0
 
 same-length-9 : tie.Need-same-length-9
-same-length-9 c = judging (sized c) .judge .kept .1 .1 .1 .1 .1 .1 .0
+same-length-9 c = judging (sized c) .judge .kept .1 .1 .1 .1 .1 .0
 
 same-length-10 : tie.Need-same-length-10
-same-length-10 c = judging (sized c) .judge .kept .1 .1 .1 .1 .1 .1 .1 .0
+same-length-10 c = judging (sized c) .judge .kept .1 .1 .1 .1 .1 .1 .0
 
 same-length-11 : tie.Need-same-length-11
-same-length-11 c = c .before .before .size-query .kept .1 .1 .1 .1 .1 .0
+same-length-11 c = judging (sized c) .judge .kept .1 .1 .1 .1 .1 .1 .1 .0
+
+same-length-12 : tie.Need-same-length-12
+same-length-12 c = judging (sized c) .judge .kept .1 .1 .1 .1 .1 .1 .1 .1 .0
+
+same-length-13 : tie.Need-same-length-13
+same-length-13 c = c .before .before .size-query .kept .1 .1 .1 .1 .1 .1 .0
 
 returns-3 : tie.Need-returns-3
 unfolding lent
 returns-3 c =
     let s = c .before .before in
-    let d = s .before .before .before .before .before .before .before in
+    let d = s .before .before .before .before .before .before .before .before in
     let j = judging (sized c) .judge in
     let m = start (sized c) .args .m .now in
     let told = measured-told _ _ _ m _ (j .result) (j .ensures) (omega (arith, test (sized c) .if1 .left)) (d .if2 .left) in
@@ -119,14 +125,16 @@ measure-spec =
     same-length-3
     same-length-4
     same-length-5
+    same-length-6
     returns-2
     slice-reshare-prefix-size-query
     slice-aggregate-size-query
     size-query-requires
-    same-length-6
     same-length-7
     same-length-8
     same-length-9
     same-length-10
     same-length-11
+    same-length-12
+    same-length-13
     returns-3)

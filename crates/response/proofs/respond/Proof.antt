@@ -10,17 +10,17 @@ use Rattle.response.proofs.respond.Statement.{statement}
 use Rattle.response.proofs.respond.Tie as tie
 
 -- from the end to the limit; from there to the measure, and to the test of the room
-abbrev limiting : tie.After-slice-known14 → tie.After-limit
-limiting c = c .before .before .before .before .before .before .before .before .before .before .before .before .before .before
+abbrev limiting : tie.After-slice-known16 → tie.After-limit
+limiting c = c .before .before .before .before .before .before .before .before .before .before .before .before .before .before .before
 
 abbrev sizing : tie.After-limit → tie.After-measure
-sizing c = c .before .before .before .before .before .before .before .before .before .before .before .before .before .before
+sizing c = c .before .before .before .before .before .before .before .before .before .before .before .before .before .before .before .before
 
 abbrev test : tie.After-limit → tie.Else1
-test c = sizing c .before .before .before .before .before .before .before
+test c = sizing c .before .before .before .before .before .before .before .before
 
 abbrev start : tie.After-limit → tie.Start
-start c = test c .before .before .before .before .before .before .before .before .before .before .before
+start c = test c .before .before .before .before .before .before .before .before .before .before .before .before
 
 small : (c : tie.After-limit) → start c .args .room ≤ 16384
 small c = omega (arith, test c .if1 .left)
@@ -56,7 +56,10 @@ same-length-6 : tie.Need-same-length-6
 same-length-6 c = sizing (c .before .before) .measure .kept .1 .1 .1 .1 .1 .1 .1 .1 .0
 
 same-length-7 : tie.Need-same-length-7
-same-length-7 c = refl
+same-length-7 c = sizing (c .before .before) .measure .kept .1 .1 .1 .1 .1 .1 .1 .1 .1 .0
+
+same-length-8 : tie.Need-same-length-8
+same-length-8 c = refl
 
 returns-2 : tie.Need-returns-2
 returns-2 c =
@@ -91,7 +94,7 @@ slice-aggregate-selection c =
 selection-requires : tie.Need-selection-requires
 unfolding lent
 selection-requires c κs =
-    let n = c .before .before .before .before .before .before in
+    let n = c .before .before .before .before .before .before .before in
     let d = n .before .before .before in
     let l = d .before .before in
     let s = sizing l .measure .ensures in
@@ -99,32 +102,35 @@ selection-requires c κs =
     let room = has-room _ _ _ _ _ s _ _ (small l) _ (l .limit .ensures) (d .if2 .left) _ (n .query-node .ensures) in
     (y .held, (y .labelled, room))
 
-same-length-8 : tie.Need-same-length-8
-same-length-8 c = sizing (limiting c) .measure .kept .1 .1 .1 .0
-
 same-length-9 : tie.Need-same-length-9
-same-length-9 c = sizing (limiting c) .measure .kept .1 .1 .1 .1 .0
+same-length-9 c = sizing (limiting c) .measure .kept .1 .1 .1 .0
 
 same-length-10 : tie.Need-same-length-10
-same-length-10 c = sizing (limiting c) .measure .kept .1 .1 .1 .1 .1 .0
+same-length-10 c = sizing (limiting c) .measure .kept .1 .1 .1 .1 .0
 
 same-length-11 : tie.Need-same-length-11
-same-length-11 c = sizing (limiting c) .measure .kept .1 .1 .1 .1 .1 .1 .0
+same-length-11 c = sizing (limiting c) .measure .kept .1 .1 .1 .1 .1 .0
 
 same-length-12 : tie.Need-same-length-12
-same-length-12 c = sizing (limiting c) .measure .kept .1 .1 .1 .1 .1 .1 .1 .0
+same-length-12 c = sizing (limiting c) .measure .kept .1 .1 .1 .1 .1 .1 .0
 
 same-length-13 : tie.Need-same-length-13
-same-length-13 c = sizing (limiting c) .measure .kept .1 .1 .1 .1 .1 .1 .1 .1 .0
+same-length-13 c = sizing (limiting c) .measure .kept .1 .1 .1 .1 .1 .1 .1 .0
 
 same-length-14 : tie.Need-same-length-14
-same-length-14 c = c .before .before .selection .kept .1 .1 .1 .1 .1 .1 .1 .1 .0
+same-length-14 c = sizing (limiting c) .measure .kept .1 .1 .1 .1 .1 .1 .1 .1 .0
+
+same-length-15 : tie.Need-same-length-15
+same-length-15 c = sizing (limiting c) .measure .kept .1 .1 .1 .1 .1 .1 .1 .1 .1 .0
+
+same-length-16 : tie.Need-same-length-16
+same-length-16 c = c .before .before .selection .kept .1 .1 .1 .1 .1 .1 .1 .1 .1 .0
 
 returns-3 : tie.Need-returns-3
 unfolding lent
 returns-3 c =
     let w = c .before .before in
-    let n = w .before .before .before .before .before .before .before in
+    let n = w .before .before .before .before .before .before .before .before in
     let d = n .before .before .before in
     let l = limiting c in
     let s = sizing l .measure .ensures in
@@ -146,16 +152,18 @@ respond-spec =
     same-length-5
     same-length-6
     same-length-7
+    same-length-8
     returns-2
     query-node-requires
     slice-reshare-prefix-selection
     slice-aggregate-selection
     selection-requires
-    same-length-8
     same-length-9
     same-length-10
     same-length-11
     same-length-12
     same-length-13
     same-length-14
+    same-length-15
+    same-length-16
     returns-3)

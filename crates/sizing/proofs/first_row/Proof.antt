@@ -41,7 +41,7 @@ returns c =
     let a = s .args .a .now in
     let g = s .args .g .now in
     let z = c .before .before .before .zero-row .ensures in
-    first-laid (worldAt a g [] []) _ _ _ (s .args .m .now) _ (world-size a g [] []) (s .pre .1 .0) (s .pre .1 .1) z (c .query-node .ensures)
+    first-laid (worldAt a g [] []) _ _ _ (s .args .m .now) _ (world-size a g [] []) (s .pre .1 .1 .0) (s .pre .1 .1 .1) z (c .query-node .ensures)
 
 pub first-row-spec : {M : Type 1} → statement M
 first-row-spec =

@@ -22,7 +22,9 @@ enum-told : tie.Need-enum-told
 enum-told c = search needs
 
 value-tokens-requires : tie.Need-value-tokens-requires
-value-tokens-requires c κs = search needs
+value-tokens-requires c κs =
+    let p = c .before .before .before .before .before .before .before .before .before .before .before .before .pre in
+    (p .0 .properties, (p .0 .values, (p .0 .own, p .1)))
 
 returns-2 : tie.Need-returns-2
 returns-2 c =
@@ -53,8 +55,8 @@ returns-3 c =
 enum-told-3 : tie.Need-enum-told-3
 enum-told-3 c = search needs
 
-edge-from-requires : tie.Need-edge-from-requires
-edge-from-requires c κs = search needs
+first-edge-requires : tie.Need-first-edge-requires
+first-edge-requires c κs = search needs
 
 shared-slice-read-if2 : tie.Need-shared-slice-read-if2
 shared-slice-read-if2 c = search needs
@@ -70,7 +72,7 @@ returns-4 c =
     let f = e .before .before .before .before in
     let is = sym (f .before .before .entry-cell .ensures) ∙ f .before .if1 .left in
     let shapes = e .before .before .before .shape .ensures in
-    own-some _ _ _ _ _ _ _ is _ _ (f .entry-cell2 .ensures) shapes (e .before .enum-told3 .given .1) _ (e .edge-from .ensures) (c .if2 .taken)
+    own-some _ _ _ _ _ _ _ is _ _ (f .entry-cell2 .ensures) shapes (e .before .enum-told3 .given .1) _ (e .first-edge .ensures) (c .if2 .taken)
 
 returns-5 : tie.Need-returns-5
 unfolding cell
@@ -79,7 +81,7 @@ returns-5 c =
     let f = e .before .before .before .before in
     let is = sym (f .before .before .entry-cell .ensures) ∙ f .before .if1 .left in
     let shapes = e .before .before .before .shape .ensures in
-    own-none _ _ _ _ _ _ _ is _ _ (f .entry-cell2 .ensures) shapes (e .before .enum-told3 .given .1) _ (e .edge-from .ensures) (c .if2 .left)
+    own-none _ _ _ _ _ _ _ is _ _ (f .entry-cell2 .ensures) shapes (e .before .enum-told3 .given .1) _ (e .first-edge .ensures) (c .if2 .left)
 
 pub own-tokens-spec : {M : Type 1} → statement M
 own-tokens-spec =
@@ -98,7 +100,7 @@ own-tokens-spec =
     add-result
     returns-3
     enum-told-3
-    edge-from-requires
+    first-edge-requires
     shared-slice-read-if2
     cast-if2
     returns-4

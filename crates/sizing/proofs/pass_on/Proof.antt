@@ -59,7 +59,9 @@ enum-told-2 : tie.Need-enum-told-2
 enum-told-2 c = search needs
 
 push-targets-requires : tie.Need-push-targets-requires
-push-targets-requires c κs = search needs
+push-targets-requires c κs =
+    let p = c .before .before .before .before .before .before .before .before .before .before .before .before .pre in
+    (p .0 .edges, (p .1 .0, (p .1 .1 .0, p .1 .1 .1 .1)))
 
 same-length-2 : tie.Need-same-length-2
 same-length-2 c = search needs
@@ -77,8 +79,8 @@ returns-4 c =
 enum-told-3 : tie.Need-enum-told-3
 enum-told-3 c = search needs
 
-edge-from-requires : tie.Need-edge-from-requires
-edge-from-requires c κs = search needs
+first-edge-requires : tie.Need-first-edge-requires
+first-edge-requires c κs = search needs
 
 shared-slice-read-if3 : tie.Need-shared-slice-read-if3
 shared-slice-read-if3 c = search needs
@@ -100,7 +102,7 @@ add-add-at-2 c = search needs
 add-at-requires-2 : tie.Need-add-at-requires-2
 unfolding cell
 add-at-requires-2 c κs =
-    let s = c .before .before .before .before .before .before .before .before .before .before .before .before .before .before .before in
+    let s = c .before .before .before .before .before .before .before .before .before .before .before .before .before .before .before .before in
     let t = s .pre .0 .edges .ends _ (c .before .before .if3 .taken) in
     omega (arith, t, c .target .ensures, s .pre)
 
@@ -117,7 +119,7 @@ returns-5 c =
     let letter = i .before .entry-cell .ensures in
     let name = o .before .before .before .entry-cell3 .ensures in
     let shape = o .before .before .shape .ensures in
-    let edge = f .before .before .edge-from .ensures in
+    let edge = f .before .before .first-edge .ensures in
     let one = c .before .before .add-at2 .ensures in
     goes-first _ _ _ _ _ _ _ _ _ letter (i .if1 .left) _ name _ shape (o .enum-told3 .given .1) _ edge _ _ (f .if3 .taken) (t .target .ensures) one
 
@@ -129,7 +131,7 @@ returns-6 c =
     let letter = i .before .entry-cell .ensures in
     let name = o .before .before .before .entry-cell3 .ensures in
     let shape = o .before .before .shape .ensures in
-    let edge = c .before .before .edge-from .ensures in
+    let edge = c .before .before .first-edge .ensures in
     goes-no-edge _ _ _ _ _ _ _ _ _ letter (i .if1 .left) _ name _ shape (o .enum-told3 .given .1) _ edge (c .if3 .left)
 
 pub pass-on-spec : {M : Type 1} → statement M
@@ -153,7 +155,7 @@ pass-on-spec =
     same-length-2
     returns-4
     enum-told-3
-    edge-from-requires
+    first-edge-requires
     shared-slice-read-if3
     cast-if3
     target-requires

@@ -13,16 +13,16 @@ use Rattle.sizing.proofs.pass_row.Statement.{statement}
 use Rattle.sizing.proofs.pass_row.Tie as tie
 
 abbrev Inv-loop : tie.InvT-loop
-Inv-loop a g q k m₀ c b n u₀ m u = Passing (nextAt a g q k) c b (cell g 0) m₀ m u
+Inv-loop a g ix q k m₀ c b n u₀ m u = Passing (nextAt a g q k) c b (cell g 0) m₀ m u
 
 abbrev μ-loop : tie.MeasureT-loop
-μ-loop a g q k m₀ c b n u₀ m u = cell g 0 - u
+μ-loop a g ix q k m₀ c b n u₀ m u = cell g 0 - u
 
 shared-slice-read-n : tie.Need-shared-slice-read-n Inv-loop μ-loop
 shared-slice-read-n c = search needs
 
 abbrev entry : tie.At-loop Inv-loop μ-loop → tie.Start Inv-loop μ-loop
-entry c = c .before .before .before .before .before .before .before .before .before .before
+entry c = c .before .before .before .before .before .before .before .before .before .before .before
 
 -- the area at the loop's start is as long as it was
 same : (c : tie.At-loop Inv-loop μ-loop) → length (c .before .before .before .zero-row .last .0) ≡ length (entry c .args .m .now)
@@ -44,7 +44,7 @@ zero-row-requires c κs = search needs
 loop-holds : tie.Need-loop-holds Inv-loop μ-loop
 unfolding cell
 loop-holds c =
-    let s = c .before .before .before .before .before .before .before .before .before in
+    let s = c .before .before .before .before .before .before .before .before .before .before in
     passing-none _ _ _ _ (s .args .m .now) _ (s .pre .1 .1 .1 .0) (s .pre .1 .1 .1 .1) (c .before .before .zero-row .ensures)
 
 cast-number-at : tie.Need-cast-number-at Inv-loop μ-loop

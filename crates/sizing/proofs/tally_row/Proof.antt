@@ -14,20 +14,20 @@ use Rattle.sizing.proofs.tally_row.Statement.{statement}
 use Rattle.sizing.proofs.tally_row.Tie as tie
 
 abbrev Inv-loop : tie.InvT-loop
-Inv-loop a g p v q k m c n r₀ u₀ r u =
+Inv-loop a g p v ix q k m c n r₀ u₀ r u =
     (talliedFrom (worldAt a g p v) q k (rowIn m c (cell g 0)) r u ≡ talliedFrom (worldAt a g p v) q k (rowIn m c (cell g 0)) r₀ 0)
     × ((r .visits ≤ r₀ .visits + u) × (u ≤ cell g 0))
 
 abbrev μ-loop : tie.MeasureT-loop
-μ-loop a g p v q k m c n r₀ u₀ r u = cell g 0 - u
+μ-loop a g p v ix q k m c n r₀ u₀ r u = cell g 0 - u
 
 shared-slice-read-n : tie.Need-shared-slice-read-n Inv-loop μ-loop
-shared-slice-read-n c = omega (arith, c .before .before .before .before .before .before .before .pre .0 .graph .edges .nodes .long)
+shared-slice-read-n c = omega (arith, c .before .before .before .before .before .before .before .before .pre .0 .graph .edges .nodes .long)
 
 -- the row fits the area
-row-fits : (c : tie.At-loop Inv-loop μ-loop) → let a = c .before .before .before .before .before .before .before .before .args in
+row-fits : (c : tie.At-loop Inv-loop μ-loop) → let a = c .before .before .before .before .before .before .before .before .before .args in
     a .c + cell (a .g .now) 0 ≤ length (a .m .now)
-row-fits c = c .before .before .before .before .before .before .before .before .pre .1 .1 .1 .0
+row-fits c = c .before .before .before .before .before .before .before .before .before .pre .1 .1 .1 .0
 
 loop-holds : tie.Need-loop-holds Inv-loop μ-loop
 loop-holds c = (refl, omega arith)
@@ -46,12 +46,12 @@ number-at-requires c κs = omega (arith, c .loop-test .taken, row-fits (c .befor
 
 own-tokens-requires : tie.Need-own-tokens-requires Inv-loop μ-loop
 own-tokens-requires c κs =
-    let s = c .before .before .before .before .before .before .before .before .before .before .before in
+    let s = c .before .before .before .before .before .before .before .before .before .before .before .before in
     (s .pre .0, (s .pre .1 .0, s .pre .1 .1 .0))
 
 add-requires : tie.Need-add-requires Inv-loop μ-loop
 add-requires c κs =
-    let s = c .before .before .before .before .before .before .before .before .before .before .before .before in
+    let s = c .before .before .before .before .before .before .before .before .before .before .before .before .before in
     let inv = c .before .before .before .before .loop .inv in
     omega (arith, inv .1 .0, inv .1 .1, s .pre .0 .graph .edges .nodes .nodes, s .pre .1 .1 .1 .1)
 
@@ -66,7 +66,7 @@ loop-less c = omega (arith, c .before .before .loop-test .taken)
 loop-again : tie.Need-loop-again Inv-loop μ-loop
 unfolding cell
 loop-again c =
-    let s = c .before .before .before .before .before .before .before .before .before .before .before in
+    let s = c .before .before .before .before .before .before .before .before .before .before .before .before in
     let inside = c .before .before .loop-test .taken in
     let i = c .before .before .before .loop .inv in
     let read = c .before .number-at .ensures in
@@ -84,7 +84,7 @@ loop-again c =
 returns : tie.Need-returns Inv-loop μ-loop
 unfolding cell
 returns c =
-    let s = c .before .before .before .before .before .before .before .before .before in
+    let s = c .before .before .before .before .before .before .before .before .before .before in
     let inv = c .before .loop .inv in
     (sym (tally-end _ _ _ _ _ _ (s .pre .1 .1 .1 .0) _ _ (c .loop-test .left)) ∙ inv .0, omega (arith, inv .1 .0, inv .1 .1))
 

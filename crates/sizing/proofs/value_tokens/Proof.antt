@@ -11,8 +11,8 @@ use Rattle.sizing.proofs.value_tokens.Tie as tie
 
 lookup-requires : tie.Need-lookup-requires
 lookup-requires c κs =
-    let s = c .before .before .before in
-    (properties-table _ _ (s .pre .0), (s .pre .1 .1 .0, s .pre .1 .1 .1))
+    let s = c .before .before .before .before in
+    (properties-table _ _ (s .pre .0), s .pre .1 .1)
 
 enum-known-j : tie.Need-enum-known-j
 enum-known-j c = search needs
@@ -24,19 +24,19 @@ returns : tie.Need-returns
 returns c = value-none _ _ _ _ _ (c .before .before .lookup .ensures) (c .enum-told .given .1)
 
 -- the row that was found
-within : (c : tie.After-known-told) → c .before .j .given .0 .0 < cell (c .before .before .before .before .before .before .before .args .p .now) 0
+within : (c : tie.After-known-told) → c .before .j .given .0 .0 < cell (c .before .before .before .before .before .before .before .before .args .p .now) 0
 within c = lookup-within _ _ _ _ (sym (c .before .before .before .lookup .ensures) ∙ c .before .j .given .1)
 
 is-sequence-requires : tie.Need-is-sequence-requires
-is-sequence-requires c κs = (properties-table _ _ (c .before .before .before .before .before .before .before .pre .0), within c)
+is-sequence-requires c κs = (properties-table _ _ (c .before .before .before .before .before .before .before .before .pre .0), within c)
 
 value-count-requires : tie.Need-value-count-requires
-value-count-requires c κs = (c .before .before .before .before .before .before .before .before .before .pre .0, within (c .before .before))
+value-count-requires c κs = (c .before .before .before .before .before .before .before .before .before .before .pre .0, within (c .before .before))
 
 -- they are few
 few : (c : tie.After-value-count) → c .value-count .result ≤ 8200
 few c =
-    let s = c .before .before .before .before .before .before .before .before .before .before in
+    let s = c .before .before .before .before .before .before .before .before .before .before .before in
     let at-most = values-few (s .args .p .now) (s .args .v .now) (c .before .before .before .before .j .given .0 .0) in
     omega (arith, c .value-count .ensures, s .pre .1 .0)
 

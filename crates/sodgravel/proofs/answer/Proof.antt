@@ -7,14 +7,14 @@ use Rattle.sodgravel.proofs.answer.Statement.{statement}
 use Rattle.sodgravel.proofs.answer.Tie as tie
 
 -- from the end to the call that clears, and to that which responds
-abbrev clearing : tie.After-slice-known20 → tie.After-clear-all
-clearing c = c .before .before .before .before .before .before .before .before .before .before .before .before
+abbrev clearing : tie.After-slice-known23 → tie.After-clear-all
+clearing c = c .before .before .before .before .before .before .before .before .before .before .before .before .before .before
 
-abbrev lent-again : tie.After-slice-known20 → tie.After-slice-known14
-lent-again c = clearing c .before .before .before .before .before .before .before
+abbrev lent-again : tie.After-slice-known23 → tie.After-slice-known16
+lent-again c = clearing c .before .before .before .before .before .before .before .before
 
-abbrev responding : tie.After-slice-known20 → tie.After-respond
-responding c = lent-again c .before .before .before .before .before .before .before .before .before .before .before .before .before .before
+abbrev responding : tie.After-slice-known23 → tie.After-respond
+responding c = lent-again c .before .before .before .before .before .before .before .before .before .before .before .before .before .before .before .before
 
 respond-requires : tie.Need-respond-requires
 respond-requires c κs = tt
@@ -41,7 +41,10 @@ same-length-6 : tie.Need-same-length-6
 same-length-6 c = clearing c .clear-all .kept .1 .1 .1 .1 .1 .0 ∙ responding c .respond .kept .1 .1 .1 .1 .1 .1 .1 .1 .0
 
 same-length-7 : tie.Need-same-length-7
-same-length-7 c = responding c .respond .kept .1 .1 .1 .1 .1 .1 .1 .1 .1 .1 .0
+same-length-7 c = clearing c .clear-all .kept .1 .1 .1 .1 .1 .1 .0 ∙ responding c .respond .kept .1 .1 .1 .1 .1 .1 .1 .1 .1 .0
+
+same-length-8 : tie.Need-same-length-8
+same-length-8 c = responding c .respond .kept .1 .1 .1 .1 .1 .1 .1 .1 .1 .1 .1 .0
 
 returns : tie.Need-returns
 unfolding lent
@@ -55,7 +58,8 @@ returns c =
     then cleared-as _ _ _ (z .1 .1 .0) (k .1 .1 .0)
     then cleared-as _ _ _ (z .1 .1 .1 .0) (k .1 .1 .1 .0)
     then cleared-as _ _ _ (z .1 .1 .1 .1 .0) (k .1 .1 .1 .1 .0)
-    then cleared-as _ _ _ (z .1 .1 .1 .1 .1) (k .1 .1 .1 .1 .1 .0)
+    then cleared-as _ _ _ (z .1 .1 .1 .1 .1 .0) (k .1 .1 .1 .1 .1 .0)
+    then cleared-as _ _ _ (z .1 .1 .1 .1 .1 .1) (k .1 .1 .1 .1 .1 .1 .0)
 
 pub answer-spec : {M : Type 1} → statement M
 answer-spec =
@@ -70,4 +74,5 @@ answer-spec =
     same-length-5
     same-length-6
     same-length-7
+    same-length-8
     returns)

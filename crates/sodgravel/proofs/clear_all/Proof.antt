@@ -20,6 +20,9 @@ clear-requires-4 c κs = search needs
 clear-requires-5 : tie.Need-clear-requires-5
 clear-requires-5 c κs = search needs
 
+clear-requires-6 : tie.Need-clear-requires-6
+clear-requires-6 c κs = search needs
+
 clear-rows-requires : tie.Need-clear-rows-requires
 clear-rows-requires c κs = search needs
 
@@ -41,10 +44,14 @@ same-length-5 c = search needs
 same-length-6 : tie.Need-same-length-6
 same-length-6 c = search needs
 
+same-length-7 : tie.Need-same-length-7
+same-length-7 c = search needs
+
 returns : tie.Need-returns
 unfolding cleared
 returns c =
-    let e6 = c .before .before in
+    let e7 = c .before .before in
+    let e6 = e7 .before .before .before .before in
     let e5 = e6 .before .before .before .before in
     let e4 = e5 .before .before .before .before in
     let e3 = e4 .before .before .before .before in
@@ -55,7 +62,8 @@ returns c =
     then e3 .clear3 .ensures
     then e4 .clear4 .ensures
     then e5 .clear5 .ensures
-    then e6 .clear-rows .ensures
+    then e6 .clear6 .ensures
+    then e7 .clear-rows .ensures
 
 pub clear-all-spec : {M : Type 1} → statement M
 clear-all-spec =
@@ -66,6 +74,7 @@ clear-all-spec =
     clear-requires-3
     clear-requires-4
     clear-requires-5
+    clear-requires-6
     clear-rows-requires
     same-length
     same-length-2
@@ -73,4 +82,5 @@ clear-all-spec =
     same-length-4
     same-length-5
     same-length-6
+    same-length-7
     returns)

@@ -7,14 +7,14 @@ use Rattle.sodgravel.proofs.size.Statement.{statement}
 use Rattle.sodgravel.proofs.size.Tie as tie
 
 -- from the end to the call that clears, and to that which measures
-abbrev clearing : tie.After-slice-known18 → tie.After-clear-all
-clearing c = c .before .before .before .before .before .before .before .before .before .before .before .before
+abbrev clearing : tie.After-slice-known21 → tie.After-clear-all
+clearing c = c .before .before .before .before .before .before .before .before .before .before .before .before .before .before
 
-abbrev lent-again : tie.After-slice-known18 → tie.After-slice-known12
-lent-again c = clearing c .before .before .before .before .before .before .before
+abbrev lent-again : tie.After-slice-known21 → tie.After-slice-known14
+lent-again c = clearing c .before .before .before .before .before .before .before .before
 
-abbrev measuring : tie.After-slice-known18 → tie.After-measure
-measuring c = lent-again c .before .before .before .before .before .before .before .before .before .before .before .before
+abbrev measuring : tie.After-slice-known21 → tie.After-measure
+measuring c = lent-again c .before .before .before .before .before .before .before .before .before .before .before .before .before .before
 
 measure-requires : tie.Need-measure-requires
 measure-requires c κs = tt
@@ -40,6 +40,9 @@ same-length-5 c = clearing c .clear-all .kept .1 .1 .1 .1 .0 ∙ measuring c .me
 same-length-6 : tie.Need-same-length-6
 same-length-6 c = clearing c .clear-all .kept .1 .1 .1 .1 .1 .0 ∙ measuring c .measure .kept .1 .1 .1 .1 .1 .1 .1 .1 .0
 
+same-length-7 : tie.Need-same-length-7
+same-length-7 c = clearing c .clear-all .kept .1 .1 .1 .1 .1 .1 .0 ∙ measuring c .measure .kept .1 .1 .1 .1 .1 .1 .1 .1 .1 .0
+
 returns : tie.Need-returns
 unfolding lent
 returns c =
@@ -51,7 +54,8 @@ returns c =
     then cleared-as _ _ _ (z .1 .1 .0) (k .1 .1 .0)
     then cleared-as _ _ _ (z .1 .1 .1 .0) (k .1 .1 .1 .0)
     then cleared-as _ _ _ (z .1 .1 .1 .1 .0) (k .1 .1 .1 .1 .0)
-    then cleared-as _ _ _ (z .1 .1 .1 .1 .1) (k .1 .1 .1 .1 .1 .0)
+    then cleared-as _ _ _ (z .1 .1 .1 .1 .1 .0) (k .1 .1 .1 .1 .1 .0)
+    then cleared-as _ _ _ (z .1 .1 .1 .1 .1 .1) (k .1 .1 .1 .1 .1 .1 .0)
 
 pub size-spec : {M : Type 1} → statement M
 size-spec =
@@ -65,4 +69,5 @@ size-spec =
     same-length-4
     same-length-5
     same-length-6
+    same-length-7
     returns)

@@ -16,7 +16,7 @@ use Rattle.evaluate.proofs.+entry+listed+object+selection.Lts-object as
 module _ (t : ℕ) where
   abbrev start : tie.After-slice-known2 (calls t) (pre t) Post
       → tie.Start (calls t) (pre t) Post
-  start c = c .before .before .before .before .before .before .before .before .before .before
+  start c = c .before .before .before .before .before .before .before .before .before .before .before
 
   with-bracket : (c : tie.After-slice-known2 (calls t) (pre t) Post)
       → let a = start c .args in
@@ -30,7 +30,7 @@ module _ (t : ℕ) where
       → let a = start (c .before .before .before .before .before) .args in
       let w = worldAt (a .a .now) (a .g .now) (a .p .now) (a .v .now) in
       let r = c .before .before .selection in
-      Part (a .out .now) (a .at) (braced w (a .q .now) (a .k) (a .x)) (closeObject ∷ []) (r .last .1 .1 .1 .1 .1 .1 .1 .1 .0) (r .result)
+      Part (a .out .now) (a .at) (braced w (a .q .now) (a .k) (a .x)) (closeObject ∷ []) (r .last .1 .1 .1 .1 .1 .1 .1 .1 .1 .0) (r .result)
   with-children c =
       let opened = c .before .before .before .before .before in
       let law = below-then _ _ _ _ (c .before .before .before .before .entry-cell .ensures) _ in
@@ -38,7 +38,7 @@ module _ (t : ℕ) where
 
   put-requires : tie.Need-put-requires (calls t) (pre t) Post
   put-requires c κs =
-      let room = c .before .before .before .before .before .before .before .pre .1 .1 .1 .1 in
+      let room = c .before .before .before .before .before .before .before .before .pre .1 .1 .1 .1 in
       room-one (part-room room (braced-open _ _ _ _) (part-none _ _ _))
 
   add-selection : tie.Need-add-selection (calls t) (pre t) Post

@@ -17,7 +17,7 @@ use Rattle.evaluate.proofs.+entry+listed+object+selection.Lts-entry as 
 module _ (t : ℕ) where
   abbrev start : tie.After-slice-known (calls t) (pre t) Post
       → tie.Start (calls t) (pre t) Post
-  start c = c .before .before .before .before .before .before
+  start c = c .before .before .before .before .before .before .before
 
   abbrev from-label : tie.After-slice-known3 (calls t) (pre t) Post
       → tie.Start (calls t) (pre t) Post
@@ -125,7 +125,7 @@ module _ (t : ℕ) where
       let h = from-label label .pre .1 in
       let law = fielded-scalar _ _ (known-shape (c .before .before .before)) (c .before .enum-told .given .1) in
       let room = part-room-last (h .1 .1 .1) (part-same law (labelled label)) in
-      (h .0 .properties, (h .0 .values, (h .1 .0 .held, (h .1 .1 .0, room))))
+      (h .0 .properties, (h .0 .values, (h .0 .own, (h .1 .0 .held, (h .1 .1 .0, room)))))
 
   returns-3 : tie.Need-returns-3 (calls t) (pre t) Post
   returns-3 c =
@@ -165,8 +165,10 @@ module _ (t : ℕ) where
   enum-told-3 : tie.Need-enum-told-3 (calls t) (pre t) Post
   enum-told-3 c = search needs
 
-  edge-from-requires : tie.Need-edge-from-requires (calls t) (pre t) Post
-  edge-from-requires c κs = search needs
+  first-edge-requires : tie.Need-first-edge-requires (calls t) (pre t) Post
+  first-edge-requires c κs =
+      let h = from-label (c .before .before .before .before) .pre .1 in
+      (h .0 .graph .edges, (h .1 .0 .held, h .1 .1 .0))
 
   shared-slice-read-if3 : tie.Need-shared-slice-read-if3 (calls t) (pre t) Post
   shared-slice-read-if3 c =
@@ -192,7 +194,7 @@ module _ (t : ℕ) where
       let single = edge .before .before .before in
       let label = single .before .before in
       let h = from-label label .pre in
-      let first = fielded-object _ _ (known-shape single) (edge .before .enum-told3 .given .1) (edge .edge-from .ensures) in
+      let first = fielded-object _ _ (known-shape single) (edge .before .enum-told3 .given .1) (edge .first-edge .ensures) in
       let law = first (c .before .before .if3 .taken) (c .before .target .ensures) in
       let room = part-room-last (h .1 .1 .1 .1) (part-same law (labelled label)) in
       (omega (arith, h .0, h .1 .1 .1 .0), (h .1 .0, (h .1 .1 .0, (h .1 .1 .1 .0, room))))
@@ -203,7 +205,7 @@ module _ (t : ℕ) where
       let edge = c .before .before .before .before .before .before .before in
       let single = edge .before .before .before in
       let label = single .before .before in
-      let first = fielded-object _ _ (known-shape single) (edge .before .enum-told3 .given .1) (edge .edge-from .ensures) in
+      let first = fielded-object _ _ (known-shape single) (edge .before .enum-told3 .given .1) (edge .first-edge .ensures) in
       let law = first (c .before .before .before .before .before .if3 .taken) (c .before .before .before .before .target .ensures) in
       part-last (from-label label .pre .1 .1 .1 .1) (part-same law (labelled label)) (c .before .before .object .ensures)
 
@@ -218,7 +220,7 @@ module _ (t : ℕ) where
       let edge = c .before .before .before in
       let single = edge .before .before .before in
       let label = single .before .before in
-      let none = fielded-null _ _ (known-shape single) (edge .before .enum-told3 .given .1) (edge .edge-from .ensures) in
+      let none = fielded-null _ _ (known-shape single) (edge .before .enum-told3 .given .1) (edge .first-edge .ensures) in
       let law = none (c .before .if3 .left) in
       part-room-last (from-label label .pre .1 .1 .1 .1) (part-same law (labelled label))
 
@@ -228,7 +230,7 @@ module _ (t : ℕ) where
       let edge = c .before .before .before .before .before .before in
       let single = edge .before .before .before in
       let label = single .before .before in
-      let none = fielded-null _ _ (known-shape single) (edge .before .enum-told3 .given .1) (edge .edge-from .ensures) in
+      let none = fielded-null _ _ (known-shape single) (edge .before .enum-told3 .given .1) (edge .first-edge .ensures) in
       let law = none (c .before .before .before .before .if3 .left) in
       part-last (from-label label .pre .1 .1 .1 .1) (part-same law (labelled label)) (c .before .before .put2 .ensures)
 
@@ -267,7 +269,7 @@ module _ (t : ℕ) where
       same-length-3
       returns-4
       enum-told-3
-      edge-from-requires
+      first-edge-requires
       shared-slice-read-if3
       cast-if3
       target-requires

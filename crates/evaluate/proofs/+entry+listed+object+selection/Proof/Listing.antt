@@ -10,24 +10,24 @@ use Rattle.evaluate.specs.Write.{Room}
 use Rattle.evaluate.specs.Evaluate.{enlisted}
 use Rattle.evaluate.proofs.Write.{Part, part-none, part-same, part-step, part-last}
 use Rattle.evaluate.proofs.Write.{room-one, part-room, part-room-last, wrote-length}
-use Rattle.world.proofs.Targets.{edges-fewer}
+use Rattle.world.proofs.Targets.{edges-fewer, edge-node}
 use Rattle.evaluate.proofs.Steps.{objectsFrom, objects-end, objects-more, enlisted-open}
 use Rattle.evaluate.proofs.+entry+listed+object+selection.Proof.Measures.{listed-calls as calls, listed-at as pre}
 use Rattle.evaluate.proofs.listed.Reads.{Post}
 use Rattle.evaluate.proofs.+entry+listed+object+selection.Lts-listed as tie
 
 abbrev Inv-loop : tie.InvT-loop
-Inv-loop a g p v q k u out₀ at n pos₀ e₀ out pos e =
+Inv-loop a g p v ix q k u out₀ at n pos₀ e₀ out pos e =
     let w = worldAt a g p v in
     (j : ℕ) × ((e ≡ edgeFrom g u (askedAt q k) j) × Part out₀ pos₀ (objectsFrom w g q k u 0) (objectsFrom w g q k u j) out pos)
 
 abbrev μ-loop : tie.MeasureT-loop
-μ-loop a g p v q k u out₀ at n pos₀ e₀ out pos e = cell g 1 - e
+μ-loop a g p v ix q k u out₀ at n pos₀ e₀ out pos e = cell g 1 - e
 
 module _ (t : ℕ) where
   abbrev start : tie.After-slice-known2 (calls t) (pre t) Post Inv-loop μ-loop
       → tie.Start (calls t) (pre t) Post Inv-loop μ-loop
-  start c = c .before .before .before .before .before .before .before .before .before .before .before
+  start c = c .before .before .before .before .before .before .before .before .before .before .before .before
 
   opened : (c : tie.After-slice-known2 (calls t) (pre t) Post Inv-loop μ-loop)
       → let a = start c .args in
@@ -53,14 +53,16 @@ module _ (t : ℕ) where
 
   put-requires : tie.Need-put-requires (calls t) (pre t) Post Inv-loop μ-loop
   put-requires c κs =
-      let room = c .before .before .before .before .before .before .before .before .pre .1 .1 .1 .1 in
+      let room = c .before .before .before .before .before .before .before .before .before .pre .1 .1 .1 .1 in
       room-one (part-room room (enlisted-open _ _ _ _ _ _ _) (part-none _ _ _))
 
-  edge-from-requires : tie.Need-edge-from-requires (calls t) (pre t) Post Inv-loop μ-loop
-  edge-from-requires c κs = search needs
+  first-edge-requires : tie.Need-first-edge-requires (calls t) (pre t) Post Inv-loop μ-loop
+  first-edge-requires c κs =
+      let h = start c .pre .1 in
+      (h .0 .graph .edges, (h .1 .0 .held, h .1 .1 .0))
 
   loop-holds : tie.Need-loop-holds (calls t) (pre t) Post Inv-loop μ-loop
-  loop-holds c = (0, (c .edge-from .ensures, part-none _ _ _))
+  loop-holds c = (0, (c .first-edge .ensures, part-none _ _ _))
 
   target-requires : tie.Need-target-requires (calls t) (pre t) Post Inv-loop μ-loop
   unfolding cell
@@ -76,20 +78,17 @@ module _ (t : ℕ) where
       let room = part-room (room-inside begun) law (i .1) in
       (omega (arith, h .0, h .1 .1 .1 .0), (h .1 .0, (h .1 .1 .0, (h .1 .1 .1 .0, room))))
 
-  add-edge-from : tie.Need-add-edge-from (calls t) (pre t) Post Inv-loop μ-loop
+  edge-after-requires : tie.Need-edge-after-requires (calls t) (pre t) Post Inv-loop μ-loop
   unfolding cell
-  add-edge-from c =
-      let h = start (c .before .before .before .before .before .before .before .before) .pre .1 .0 .graph in
-      omega (arith, c .before .before .before .before .before .loop-test .taken, h .edges .nodes .edges)
-
-  edge-from-requires-2 : tie.Need-edge-from-requires-2 (calls t) (pre t) Post Inv-loop μ-loop
-  edge-from-requires-2 c κs =
-      let h = start (c .before .before .before .before .before .before .before .before) .pre .1 in
-      (h .0 .graph .edges .nodes, (h .1 .0 .held, h .1 .1 .0))
+  edge-after-requires c κs =
+      let test = c .before .before .before .before .before in
+      let h = start (test .before .before .before) .pre .1 in
+      let inside = test .loop-test .taken in
+      (h .0 .graph .edges, (h .1 .0 .held, (h .1 .1 .0, (inside, edge-node _ _ _ _ _ (test .before .loop .inv .1 .0) inside))))
 
   loop-less : tie.Need-loop-less (calls t) (pre t) Post Inv-loop μ-loop
   unfolding cell
-  loop-less c = edges-fewer _ _ _ _ _ (c .before .before .before .before .before .before .loop-test .taken) (c .edge-from2 .ensures)
+  loop-less c = edges-fewer _ _ _ _ _ (c .before .before .before .before .before .before .loop-test .taken) (c .edge-after .ensures)
 
   loop-again : tie.Need-loop-again (calls t) (pre t) Post Inv-loop μ-loop
   unfolding cell
@@ -98,7 +97,7 @@ module _ (t : ℕ) where
       let begun = test .before .before .before in
       let i = test .before .loop .inv .1 in
       let law = objects-more _ _ _ _ _ _ (i .0) (test .loop-test .taken) (c .before .before .before .before .before .target .ensures) in
-      (_, (c .edge-from2 .ensures, part-step (room-inside begun) law (i .1) (c .before .before .before .object .ensures)))
+      (_, (c .edge-after .ensures, part-step (room-inside begun) law (i .1) (c .before .before .before .object .ensures)))
 
   put-requires-2 : tie.Need-put-requires-2 (calls t) (pre t) Post Inv-loop μ-loop
   unfolding cell
@@ -129,12 +128,11 @@ module _ (t : ℕ) where
       shared-slice-read-n
       cast-n
       put-requires
-      edge-from-requires
+      first-edge-requires
       loop-holds
       target-requires
       object-requires
-      add-edge-from
-      edge-from-requires-2
+      edge-after-requires
       loop-less
       loop-again
       put-requires-2

@@ -14,17 +14,17 @@ use Rattle.evaluate.proofs.selection.Reads.{Post}
 use Rattle.evaluate.proofs.+entry+listed+object+selection.Lts-selection as tie
 
 abbrev Inv-loop : tie.InvT-loop
-Inv-loop a g p v q i d u out₀ at n k₀ pos₀ out k pos =
+Inv-loop a g p v ix q i d u out₀ at n k₀ pos₀ out k pos =
     let w = worldAt a g p v in
     Part out₀ at (selected w q i d u) (selected w q k d u) out pos × (i ≤ k)
 
 abbrev μ-loop : tie.MeasureT-loop
-μ-loop a g p v q i d u out₀ at n k₀ pos₀ out k pos = cell q 0 - k
+μ-loop a g p v ix q i d u out₀ at n k₀ pos₀ out k pos = cell q 0 - k
 
 module _ (t : ℕ) where
-  abbrev start : tie.After-shared-slice-known6 (calls t) (pre t) Post Inv-loop μ-loop
+  abbrev start : tie.After-shared-slice-known7 (calls t) (pre t) Post Inv-loop μ-loop
       → tie.Start (calls t) (pre t) Post Inv-loop μ-loop
-  start c = c .before .before .before .before .before .before .before
+  start c = c .before .before .before .before .before .before .before .before
 
   shared-slice-read-n : tie.Need-shared-slice-read-n (calls t) (pre t) Post Inv-loop μ-loop
   shared-slice-read-n c = search needs

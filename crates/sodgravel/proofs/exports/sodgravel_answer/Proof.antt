@@ -3,8 +3,8 @@ use Rattle.sodgravel.proofs.exports.sodgravel_answer.Statement.{stateme
 use Rattle.sodgravel.proofs.exports.sodgravel_answer.Tie as tie
 
 -- from the end to the call
-abbrev called : tie.After-slice-known14 → tie.After-answer
-called c = c .before .before .before .before .before .before .before .before .before .before .before .before .before .before
+abbrev called : tie.After-slice-known16 → tie.After-answer
+called c = c .before .before .before .before .before .before .before .before .before .before .before .before .before .before .before .before
 
 answer-requires : tie.Need-answer-requires
 answer-requires c κs = tt
@@ -28,7 +28,10 @@ same-length-6 : tie.Need-same-length-6
 same-length-6 c = called c .answer .kept .1 .1 .1 .1 .1 .1 .1 .1 .0
 
 same-length-7 : tie.Need-same-length-7
-same-length-7 c = called c .answer .kept .1 .1 .1 .1 .1 .1 .1 .1 .1 .1 .0
+same-length-7 c = called c .answer .kept .1 .1 .1 .1 .1 .1 .1 .1 .1 .0
+
+same-length-8 : tie.Need-same-length-8
+same-length-8 c = called c .answer .kept .1 .1 .1 .1 .1 .1 .1 .1 .1 .1 .1 .0
 
 returns : tie.Need-returns
 returns c = called c .answer .ensures
@@ -45,4 +48,5 @@ sodgravel-answer-spec =
     same-length-5
     same-length-6
     same-length-7
+    same-length-8
     returns)

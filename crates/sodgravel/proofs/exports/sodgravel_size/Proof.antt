@@ -3,8 +3,8 @@ use Rattle.sodgravel.proofs.exports.sodgravel_size.Statement.{statement
 use Rattle.sodgravel.proofs.exports.sodgravel_size.Tie as tie
 
 -- from the end to the call
-abbrev called : tie.After-slice-known12 → tie.After-size
-called c = c .before .before .before .before .before .before .before .before .before .before .before .before
+abbrev called : tie.After-slice-known14 → tie.After-size
+called c = c .before .before .before .before .before .before .before .before .before .before .before .before .before .before
 
 size-requires : tie.Need-size-requires
 size-requires c κs = tt
@@ -27,6 +27,9 @@ same-length-5 c = called c .size .kept .1 .1 .1 .1 .1 .1 .1 .0
 same-length-6 : tie.Need-same-length-6
 same-length-6 c = called c .size .kept .1 .1 .1 .1 .1 .1 .1 .1 .0
 
+same-length-7 : tie.Need-same-length-7
+same-length-7 c = called c .size .kept .1 .1 .1 .1 .1 .1 .1 .1 .1 .0
+
 returns : tie.Need-returns
 returns c = called c .size .ensures
 
@@ -41,4 +44,5 @@ sodgravel-size-spec =
     same-length-4
     same-length-5
     same-length-6
+    same-length-7
     returns)

@@ -1,0 +1,6 @@
+pub mod Firsts
+pub mod Links
+pub mod Chains
+pub mod Laying
+pub mod Areas
+pub mod Declared

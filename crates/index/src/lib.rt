@@ -1,0 +1,69 @@
+// The index of a graph: of each node its edges and its properties, as chains of rows in the order of the graph.
+ghost use mathlib.Core.Path.{_≡_};
+ghost use mathlib.Core.Bool.{cond};
+ghost use Prim.Native.Nat.{_+_, _≤_, _<_};
+ghost use lib.ListN.{length};
+ghost use lib.Dec.{ltb};
+ghost use Rattle.tables.specs.Read.{cell};
+ghost use Rattle.index.specs.Index.{ledTo, Rowed, Blank, LinksLaid, sourcesAt, indexAt};
+
+// The row that a link leads to, n where it leads to none.
+fn led_to(n: usize, link: u32) -> usize
+    ensures { λ r. ⌜ r ≡ ledTo n link ⌝ }
+{
+    if link == 0 {
+        return n;
+    }
+    link as usize - 1
+}
+
+// The first row of node u, by the links from `at` on of a table of n rows; n where it has none.
+pub fn first_row(x: &[u32], at: usize, n: usize, u: u32) -> usize
+    requires { ⌜ at + 1536 ≤ length (now x) ⌝ }
+    requires { ⌜ at ≤ 1536 ⌝ }
+    ensures { λ r. ⌜ r ≡ cond (ltb u 512) (ledTo n (cell (now (x .entry)) (at + u))) n ⌝ }
+{
+    if u < 512 {
+        return led_to(n, x[at + u as usize]);
+    }
+    n
+}
+
+// The next row of the node of row j.
+pub fn next_row(x: &[u32], at: usize, n: usize, j: usize) -> usize
+    requires { ⌜ at + 1536 ≤ length (now x) ⌝ }
+    requires { ⌜ at ≤ 1536 ⌝ }
+    requires { ⌜ j < 1024 ⌝ }
+    ensures { λ r. ⌜ r ≡ ledTo n (cell (now (x .entry)) (at + 512 + j)) ⌝ }
+{
+    led_to(n, x[at + 512 + j])
+}
+
+// Lays the links of a table of n rows where zeros stand, from the last row to the first: the node's first link becomes the row's
+// next, and the row becomes the node's first.
+fn lay_links(a: &[u32], base: usize, n: usize, x: &mut [u32], at: usize)
+    requires { ⌜ Rowed (now a) base n ⌝ }
+    requires { ⌜ Blank (now x) at ⌝ }
+    ensures { λ _. ⌜ LinksLaid (sourcesAt (now (a .entry)) base n) at (now (x .entry)) (now (x .exit)) ⌝ }
+{
+    let mut j = n;
+    while 0 < j {
+        j -= 1;
+        let u = at + tables::row_cell(a, base, 14, j, 2) as usize;
+        let first = x[u];
+        x[at + 512 + j] = first;
+        x[u] = (j + 1) as u32;
+    }
+}
+
+// Lays the index of the edges and properties that two areas hold.
+pub fn lay_index(g: &[u32], p: &[u32], x: &mut [u32])
+    requires { ⌜ Rowed (now g) 1544 (cell (now g) 1) ⌝ }
+    requires { ⌜ Rowed (now p) 8 (cell (now p) 0) ⌝ }
+    requires { ⌜ 3072 ≤ length (now x) ⌝ }
+    ensures { λ _. ⌜ now (x .exit) ≡ indexAt (length (now (x .entry))) (now (g .entry)) (now (p .entry)) ⌝ }
+{
+    tables::clear(x);
+    lay_links(g, 1544, g[1] as usize, x, 0);
+    lay_links(p, 8, p[0] as usize, x, 1536);
+}

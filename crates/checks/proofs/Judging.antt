@@ -7,14 +7,16 @@ use mathlib.Core.List.{List, [], _∷_, _++_, map}
 use mathlib.Core.Option.{Option, none, some}
 use lib.Dec.{ltb}
 use lib.ListN.{length}
+use borrow.Author.Tests.{ltb-true, ne-eqb}
 use Rattle.rules.specs.Text.{Row, rows, lines}
 use Rattle.rules.specs.Search.{Check, firstLine, spot, spotOr}
 use Rattle.rules.specs.Answer.{Numbered, _by_, verdict}
 use Rattle.rules.specs.declared.Spot.{Spot}
+use Rattle.rules.proofs.Bools.{or-false}
 use Rattle.rules.proofs.Clean.{Each}
 use Rattle.rules.proofs.Places.{place-is-first}
 use Rattle.tables.specs.Fill.{Plain}
-use Rattle.search.specs.Search.{Areas, SchemaReady, GraphReady, Ready, SearchedFor, plainCheck}
+use Rattle.search.specs.Search.{Areas, SchemaReady, GraphReady, Ready, IndexReady, SearchedFor, plainCheck, indexed}
 use Rattle.checks.specs.declared.Verdict.{Verdict}
 use Rattle.checks.specs.Verdict.{refusedBy, judged}
 
@@ -117,16 +119,29 @@ pub ready-plain : (n : ℕ) (rs : List Row) (x : Areas) → plainCheck n ≡ tru
 unfolding Ready
 ready-plain n rs x h = (λ q. absurd (true≢false (sym h ∙ q)), λ q. absurd (true≢false (sym h ∙ q)))
 
--- what the search for a check is asked with, of the text s in the areas x
-abbrev pub Asked : ℕ → List ℕ → Areas → Type 0
-Asked n s x = SearchedFor n × ((length s ≤ 65535) × (Each Plain (lines s) × Ready n (rows s) x))
+-- a check that does not walk the index asks nothing of it
+pub not-indexed : (n : ℕ) (g p i : List ℕ) → indexed n ≡ false → IndexReady n g p i
+not-indexed n g p i h = record { linked = λ q. absurd (true≢false (sym q ∙ h)) }
 
-pub ask-schema : (n : ℕ) (s : List ℕ) (x : Areas) → SearchedFor n → ltb n 20 ≡ true
-    → (length s ≤ 65535) × (Each Plain (lines s) × SchemaReady (rows s) x) → Asked n s x
-unfolding Ready
-ask-schema n s x f h r = (f, (r .0, (r .1 .0, (λ _ _. r .1 .1, λ _ q. absurd (true≢false (sym h ∙ q))))))
+low-checks : (n : ℕ) → ltb n 20 ≡ true → indexed n ≡ false
+unfolding indexed
+low-checks n h =
+    let low = ltb-true n 20 h in
+    or-false (ne-eqb n 25 (λ q. omega arith)) (ne-eqb n 26 (λ q. omega arith))
 
-pub ask-graph : (n : ℕ) (s : List ℕ) (x : Areas) → SearchedFor n → ltb n 20 ≡ false
-    → (length s ≤ 65535) × (Each Plain (lines s) × GraphReady (rows s) x) → Asked n s x
+-- what the search for a check is asked with, of the text s in the areas x, with the index i of the areas g and p
+abbrev pub Asked : ℕ → List ℕ → Areas → List ℕ → List ℕ → List ℕ → Type 0
+Asked n s x g p i = SearchedFor n × ((length s ≤ 65535) × (Each Plain (lines s) × (Ready n (rows s) x × IndexReady n g p i)))
+
+pub ask-schema : (n : ℕ) (s : List ℕ) (x : Areas) {g p i : List ℕ} → SearchedFor n → ltb n 20 ≡ true
+    → (length s ≤ 65535) × (Each Plain (lines s) × SchemaReady (rows s) x) → Asked n s x g p i
 unfolding Ready
-ask-graph n s x f h r = (f, (r .0, (r .1 .0, (λ _ q. absurd (true≢false (sym q ∙ h)), λ _ _. r .1 .1))))
+ask-schema n s x {g} {p} {i} f h r =
+    let ready = not-indexed n g p i (low-checks n h) in
+    (f, (r .0, (r .1 .0, ((λ _ _. r .1 .1, λ _ q. absurd (true≢false (sym h ∙ q))), ready))))
+
+pub ask-graph : (n : ℕ) (s : List ℕ) (x : Areas) {g p i : List ℕ} → SearchedFor n → ltb n 20 ≡ false → IndexReady n g p i
+    → (length s ≤ 65535) → Each Plain (lines s) → GraphReady (rows s) x → Asked n s x g p i
+unfolding Ready
+ask-graph n s x f h ready short plain held =
+    (f, (short, (plain, ((λ _ q. absurd (true≢false (sym q ∙ h)), λ _ _. held), ready))))

@@ -21,12 +21,12 @@ use Rattle.rules.proofs.Clean.{Each, each-map}
 use Rattle.tables.specs.Fill.{Plain, whole as wholeRow}
 use Rattle.form.specs.Form.{formsOf}
 use Rattle.form.proofs.Readable.{readable}
-use Rattle.search.specs.Search.{Areas, checkBy, SearchedFor, Ready, plainCheck}
+use Rattle.search.specs.Search.{Areas, checkBy, SearchedFor, Ready, IndexReady, plainCheck, indexed}
 use Rattle.search.proofs.Asking.{pick}
 use Rattle.checks.specs.declared.Verdict.{Verdict}
 use Rattle.checks.specs.Verdict.{refusedBy, judged, Opens, maximaOf, formChecks}
 use Rattle.checks.proofs.Judging.{judged-at, judged-past, judged-none, Passes, passed, front, behind}
-use Rattle.checks.proofs.Judging.{line-found, none-found, ready-plain}
+use Rattle.checks.proofs.Judging.{line-found, none-found, ready-plain, not-indexed}
 
 -- ---- the numbers 10, 20 and 30
 
@@ -49,6 +49,10 @@ module _ (n : ℕ) (o : Opens n) where
   pub opens-ready : (rs : List Row) (x : Areas) → Ready (n + 1) rs x
   unfolding plainCheck
   opens-ready rs x = ready-plain (n + 1) rs x (opens (λ m. plainCheck (m + 1) ≡ true) refl refl refl n o)
+
+  pub opens-not-indexed : (g p i : List ℕ) → IndexReady (n + 1) g p i
+  unfolding indexed
+  opens-not-indexed g p i = not-indexed (n + 1) g p i (opens (λ m. indexed (m + 1) ≡ false) refl refl refl n o)
 
   -- the search for the maxima looks at no area
   maxima : (s : Schema) (g : Graph) → checkBy (n + 1) s g ≡ maximaOf n

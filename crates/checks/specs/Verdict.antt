@@ -9,8 +9,8 @@ use Rattle.rules.specs.Lists.{among}
 use Rattle.rules.specs.Search.{Check, firstLine, spot, whole}
 use Rattle.rules.specs.Text.{Row, rows}
 use Rattle.rules.specs.Forms.{textForm}
-use Rattle.rules.specs.Schema.{Schema, schemaOf, check11, check12, check13, check14, check15, check16}
-use Rattle.rules.specs.Graph.{graphOf, check21, check22, check23, check24, check25, check26, check27}
+use Rattle.rules.specs.Schema.{schemaOf, check11, check12, check13, check14, check15, check16}
+use Rattle.rules.specs.Graph.{check21}
 use Rattle.rules.specs.Query.{check31}
 use Rattle.rules.specs.Answer.{Texts, Numbered, _by_, verdict, schemaIn, schemaChecks, graphChecks, queryChecks}
 use Rattle.rules.specs.declared.Spot.{Spot}
@@ -37,7 +37,7 @@ maximaOf n = cond (eqb n 10) check11 (cond (eqb n 20) check21 check31)
 unfoldable pub formChecks : ℕ → List ℕ → List Numbered
 formChecks n text = n by textForm (formsOf n) text ∷ (n + 1) by firstLine (maximaOf n) (rows text) ∷ []
 
--- the checks of a schema's text behind 11, and of a graph's behind 21
+-- the checks of a schema's text behind 11
 unfoldable pub laterSchema : List ℕ → List Numbered
 laterSchema text =
     let rs = rows text in
@@ -47,18 +47,6 @@ laterSchema text =
     ∷ 14 by firstLine (check14 s) rs
     ∷ 15 by firstLine (check15 s) rs
     ∷ 16 by check16 rs
-    ∷ []
-
-unfoldable pub laterGraph : Schema → List ℕ → List Numbered
-laterGraph s text =
-    let rs = rows text in
-    let g = graphOf rs in
-    22 by firstLine (check22 s g) rs
-    ∷ 23 by firstLine (check23 s g) rs
-    ∷ 24 by firstLine (check24 s g) rs
-    ∷ 25 by firstLine (check25 s g) rs
-    ∷ 26 by firstLine check26 rs
-    ∷ 27 by check27 s g
     ∷ []
 
 -- the checks of all three texts, 2 before them: everything but the evaluation's

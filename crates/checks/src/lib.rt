@@ -43,7 +43,7 @@ pub fn judge_form(n: u32, s: &[u8], a: &[u32]) -> Verdict
     if 0 < b.line {
         return refuse(n, b);
     }
-    let c = search::first_offence(n + 1, s, a, a, a, a);
+    let c = search::first_offence(n + 1, s, a, a, a, a, a);
     if 0 < c.line {
         return refuse(n + 1, c);
     }
@@ -57,19 +57,19 @@ fn judge_schema_rows(s: &[u8], a: &[u32]) -> Verdict
     requires { ⌜ SchemaReady (rows (now s)) (areas (now a) (now a) (now a) (now a)) ⌝ }
     ensures { λ r. ⌜ r ≡ judged (laterSchema (now (s .entry))) ⌝ }
 {
-    let b = search::first_offence(12, s, a, a, a, a);
+    let b = search::first_offence(12, s, a, a, a, a, a);
     if 0 < b.line {
         return refuse(12, b);
     }
-    let c = search::first_offence(13, s, a, a, a, a);
+    let c = search::first_offence(13, s, a, a, a, a, a);
     if 0 < c.line {
         return refuse(13, c);
     }
-    let d = search::first_offence(14, s, a, a, a, a);
+    let d = search::first_offence(14, s, a, a, a, a, a);
     if 0 < d.line {
         return refuse(14, d);
     }
-    let e = search::first_offence(15, s, a, a, a, a);
+    let e = search::first_offence(15, s, a, a, a, a, a);
     if 0 < e.line {
         return refuse(15, e);
     }

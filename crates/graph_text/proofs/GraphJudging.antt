@@ -21,13 +21,13 @@ use Rattle.tables.proofs.Graphs.{graph-view, graph-formed}
 use Rattle.tables.proofs.Areas.{node-length, property-length}
 use Rattle.index.specs.Index.{sources, indexArea, indexAt, Rowed}
 use Rattle.index.proofs.Laying.{index-length}
-use Rattle.index.proofs.Areas.{index-rows, edges-rowed, properties-rowed}
+use Rattle.index.proofs.Areas.{index-edges, index-properties, index-rows, edges-rowed, properties-rowed}
 use Rattle.index.proofs.Declared.{edges-within, properties-within}
 use Rattle.schema.specs.Held.{SchemaHeld}
 use Rattle.graph.specs.Held.{NodesHeld}
 use Rattle.graph.specs.Faults.{nodesAt}
 use Rattle.form.specs.Form.{formsOf}
-use Rattle.search.specs.Search.{areas, graphIn, checkBy, GraphReady}
+use Rattle.search.specs.Search.{areas, graphIn, checkBy, GraphReady, Indexed}
 use Rattle.search.proofs.Calls.{nodes-held, value-length}
 use Rattle.checks.specs.declared.Verdict.{Verdict}
 use Rattle.checks.specs.Verdict.{refusedBy, judged, Opens, maximaOf, formChecks}
@@ -138,17 +138,25 @@ refused t s g p v x form h =
       held = λ z. absurd (h z);
     }
 
--- the three areas, laid out
-module _ (s g p v : List ℕ) (n m k : ℕ) (nl : 15880 ≤ n) (ml : 14344 ≤ m) (kl : 8200 ≤ k) (fits : GraphFits (rows s))
-    (gIs : g ≡ nodeArea n (rows s)) (pIs : p ≡ propertyArea m (rows s)) (vIs : v ≡ valueArea k (rows s)) where
+-- The three areas, of the lengths n, m and k, laid out of the text s.
+pub record Laid (s g p v : List ℕ) (n m k : ℕ) : Type 0 where
+  pub nodesRoom : 15880 ≤ n
+  pub propertiesRoom : 14344 ≤ m
+  pub valuesRoom : 8200 ≤ k
+  pub fits : GraphFits (rows s)
+  pub nodes : g ≡ nodeArea n (rows s)
+  pub properties : p ≡ propertyArea m (rows s)
+  pub values : v ≡ valueArea k (rows s)
+
+module _ {s g p v : List ℕ} {n m k : ℕ} (laid : Laid s g p v n m k) where
   gLong : length g ≡ n
-  gLong = ap length gIs ∙ node-length n (rows s) nl fits
+  gLong = ap length (laid .nodes) ∙ node-length n (rows s) (laid .nodesRoom) (laid .fits)
 
   pLong : length p ≡ m
-  pLong = ap length pIs ∙ property-length m (rows s) ml fits
+  pLong = ap length (laid .properties) ∙ property-length m (rows s) (laid .propertiesRoom) (laid .fits)
 
   vLong : length v ≡ k
-  vLong = ap length vIs ∙ value-length k (rows s) kl (fits .values)
+  vLong = ap length (laid .values) ∙ value-length k (rows s) (laid .valuesRoom) (laid .fits .values)
 
   -- they can be searched
   pub laid-ready : (a : List ℕ) → SchemaHeld a → k ≤ 16384 → textForm graphForms s ≡ none → GraphReady (rows s) (areas a g p v)
@@ -156,16 +164,16 @@ module _ (s g p v : List ℕ) (n m k : ℕ) (nl : 15880 ≤ n) (ml : 14344 ≤ m
   laid-ready a h most f =
       record {
         schema = h;
-        nodesLong = omega (arith, gLong);
-        propertiesLong = omega (arith, pLong);
-        valuesLong = omega (arith, vLong);
+        nodesLong = omega (arith, gLong, laid .nodesRoom);
+        propertiesLong = omega (arith, pLong, laid .propertiesRoom);
+        valuesLong = omega (arith, vLong, laid .valuesRoom);
         valuesMost = omega (arith, vLong);
-        fits = fits;
+        fits = laid .fits;
         formed = graph-formed s f;
         few = graph-few s f;
-        nodes = gIs ∙ ap (λ (i : ℕ). nodeArea i (rows s)) (sym gLong);
-        properties = pIs ∙ ap (λ (i : ℕ). propertyArea i (rows s)) (sym pLong);
-        values = vIs ∙ ap (λ (i : ℕ). valueArea i (rows s)) (sym vLong);
+        nodes = laid .nodes ∙ ap (λ (i : ℕ). nodeArea i (rows s)) (sym gLong);
+        properties = laid .properties ∙ ap (λ (i : ℕ). propertyArea i (rows s)) (sym pLong);
+        values = laid .values ∙ ap (λ (i : ℕ). valueArea i (rows s)) (sym vLong);
       }
 
   -- the verdict on each row by itself
@@ -182,13 +190,28 @@ module _ (s g p v : List ℕ) (n m k : ℕ) (nl : 15880 ≤ n) (ml : 14344 ≤ m
       -- the tables can be indexed
       pub edges-indexable : Rowed g 1544 (cell g 1)
       edges-indexable =
-          subst (λ (l : List ℕ). Rowed l 1544 (cell l 1)) (sym gIs)
-          (edges-rowed n m 0 (rows s) nl ml fits (edges-within t (rows s) passes-22 fits))
+          subst (λ (l : List ℕ). Rowed l 1544 (cell l 1)) (sym (laid .nodes))
+          (edges-rowed n m 0 (rows s) (laid .nodesRoom) (laid .propertiesRoom) (laid .fits)
+          (edges-within t (rows s) passes-22 (laid .fits)))
 
       pub properties-indexable : Rowed p 8 (cell p 0)
       properties-indexable =
-          subst (λ (l : List ℕ). Rowed l 8 (cell l 0)) (sym pIs)
-          (properties-rowed n m 0 (rows s) nl ml fits (properties-within t (rows s) passes-22 fits))
+          subst (λ (l : List ℕ). Rowed l 8 (cell l 0)) (sym (laid .properties))
+          (properties-rowed n m 0 (rows s) (laid .nodesRoom) (laid .propertiesRoom) (laid .fits)
+          (properties-within t (rows s) passes-22 (laid .fits)))
+
+      -- and what is laid of them is their index
+      pub laid-indexed : (i : ℕ) → 3072 ≤ i → (x : List ℕ) → x ≡ indexAt i g p → Indexed g p x
+      unfolding indexAt
+      laid-indexed i room x xIs =
+          let long : length x ≡ i = ap length xIs ∙ index-length i _ _ in
+          let is : x ≡ indexAt (length x) g p = xIs ∙ ap (λ (k : ℕ). indexAt k g p) (sym long) in
+          record {
+            nodesLong = omega (arith, gLong, laid .nodesRoom);
+            propertiesLong = omega (arith, pLong, laid .propertiesRoom);
+            edges = index-edges g p x edges-indexable properties-indexable (omega arith) is;
+            properties = index-properties g p x edges-indexable properties-indexable (omega arith) is;
+          }
 
     module _ {b : Verdict} (form : b ≡ judged (formChecks 20 s)) (z : b .number ≡ 0) where
       past : judged (graphChecks t s) ≡ judged (aloneChecks t s ++ jointChecks t s)
@@ -208,9 +231,10 @@ module _ (s g p v : List ℕ) (n m k : ℕ) (nl : 15880 ≤ n) (ml : 14344 ≤ m
           → GraphJudged t s n m k i g p v x w
       unfolding indexArea
       accepted y i x xIs j =
-          let laid = xIs ∙ ap₂ (indexAt i) gIs pIs ∙ sym (index-rows n m i (rows s) nl ml fits) in
+          let rowed = index-rows n m i (rows s) (laid .nodesRoom) (laid .propertiesRoom) (laid .fits) in
+          let is = xIs ∙ ap₂ (indexAt i) (laid .nodes) (laid .properties) ∙ sym rowed in
           record {
             is = j ∙ sym (past ∙ behind (aloneChecks t s) (jointChecks t s) (alone-passes y));
-            long = (gLong, pLong, vLong, ap length laid ∙ index-length i (sources E (rows s)) (sources P (rows s)));
-            held = λ _. (gIs, pIs, vIs, laid);
+            long = (gLong, pLong, vLong, ap length is ∙ index-length i (sources E (rows s)) (sources P (rows s)));
+            held = λ _. (laid .nodes, laid .properties, laid .values, is);
           }

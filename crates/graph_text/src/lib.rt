@@ -10,7 +10,7 @@ ghost use Rattle.tables.specs.Read.{schemaAt};
 ghost use Rattle.schema.specs.Held.{SchemaHeld};
 ghost use Rattle.graph.specs.Held.{NodesHeld};
 ghost use Rattle.graph.specs.Faults.{nodesAt};
-ghost use Rattle.search.specs.Search.{areas, GraphReady};
+ghost use Rattle.search.specs.Search.{areas, GraphReady, Indexed};
 ghost use Rattle.checks.specs.Verdict.{judged};
 ghost use Rattle.graph_text.specs.GraphVerdict.{aloneChecks, jointChecks, GraphJudged};
 use checks::Verdict;
@@ -34,40 +34,41 @@ fn count_nodes(g: &[u32], t: TypeNo) -> u32
     found
 }
 
-// Checks 22 to 24 of a graph that is laid out: those of a row by itself.
-fn judge_alone(s: &[u8], a: &[u32], g: &[u32], p: &[u32], v: &[u32]) -> Verdict
+// Checks 22 to 24 of a graph that is laid out: those of a row by itself. What the index holds does not matter.
+fn judge_alone(s: &[u8], a: &[u32], g: &[u32], p: &[u32], v: &[u32], ix: &[u32]) -> Verdict
     requires { ⌜ length (now s) ≤ 65535 ⌝ }
     requires { ⌜ Each Plain (lines (now s)) ⌝ }
     requires { ⌜ GraphReady (rows (now s)) (areas (now a) (now g) (now p) (now v)) ⌝ }
     ensures { λ r. ⌜ r ≡ judged (aloneChecks (schemaAt (now (a .entry))) (now (s .entry))) ⌝ }
 {
-    let b = search::first_offence(22, s, a, g, p, v);
+    let b = search::first_offence(22, s, a, g, p, v, ix);
     if 0 < b.line {
         return checks::refuse(22, b);
     }
-    let c = search::first_offence(23, s, a, g, p, v);
+    let c = search::first_offence(23, s, a, g, p, v, ix);
     if 0 < c.line {
         return checks::refuse(23, c);
     }
-    let d = search::first_offence(24, s, a, g, p, v);
+    let d = search::first_offence(24, s, a, g, p, v, ix);
     if 0 < d.line {
         return checks::refuse(24, d);
     }
     checks::refuse(0, checks::nowhere())
 }
 
-// Checks 25 to 27 of a graph that is laid out: those of a row and the others.
-fn judge_joint(s: &[u8], a: &[u32], g: &[u32], p: &[u32], v: &[u32]) -> Verdict
+// Checks 25 to 27 of a graph that is laid out, with its index: those of a row and the others.
+fn judge_joint(s: &[u8], a: &[u32], g: &[u32], p: &[u32], v: &[u32], ix: &[u32]) -> Verdict
     requires { ⌜ length (now s) ≤ 65535 ⌝ }
     requires { ⌜ Each Plain (lines (now s)) ⌝ }
     requires { ⌜ GraphReady (rows (now s)) (areas (now a) (now g) (now p) (now v)) ⌝ }
+    requires { ⌜ Indexed (now g) (now p) (now ix) ⌝ }
     ensures { λ r. ⌜ r ≡ judged (jointChecks (schemaAt (now (a .entry))) (now (s .entry))) ⌝ }
 {
-    let b = search::first_offence(25, s, a, g, p, v);
+    let b = search::first_offence(25, s, a, g, p, v, ix);
     if 0 < b.line {
         return checks::refuse(25, b);
     }
-    let c = search::first_offence(26, s, a, g, p, v);
+    let c = search::first_offence(26, s, a, g, p, v, ix);
     if 0 < c.line {
         return checks::refuse(26, c);
     }
@@ -101,10 +102,10 @@ pub fn judge_graph(
     tables::lay_nodes(s, g);
     tables::lay_properties(s, p);
     tables::lay_values(s, v);
-    let c = judge_alone(s, a, g, p, v);
+    let c = judge_alone(s, a, g, p, v, ix);
     if c.number != 0 {
         return c;
     }
     index::lay_index(g, p, ix);
-    judge_joint(s, a, g, p, v)
+    judge_joint(s, a, g, p, v, ix)
 }

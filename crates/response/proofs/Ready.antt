@@ -33,7 +33,7 @@ use Rattle.search.proofs.Asking.{nodes-read, properties-read}
 use Rattle.checks.specs.declared.Verdict.{Verdict}
 use Rattle.checks.proofs.Entering.{QueryFormed, query-formed, query-entries, query-entries-same, query-held}
 use Rattle.checks.proofs.Fitting.{schema-fits, graph-fits, query-fits}
-use Rattle.graph_text.proofs.GraphJudging.{laid-ready}
+use Rattle.graph_text.proofs.GraphJudging.{Laid, laid-ready}
 use Rattle.judge.specs.Texts.{Lent, tooShortOf, Holding, Judged}
 use Rattle.judge.proofs.Texts.{Long}
 use Rattle.judge.proofs.World.{schema-read, graph-read, world-read}
@@ -103,11 +103,20 @@ module _ (x : Texts) (before after : Lent) (v : Verdict) (j : Judged x before af
       subst SchemaHeld (sym (hold .schema))
       (schema-held (length (before .schema)) (rows (x .schema)) (long .schema) (schema-fits (rows (x .schema)) (passed 11)))
 
+  graph-laid : Laid (x .graph) (after .nodes) (after .properties) vs (length (before .nodes)) (length (before .properties)) 8200
+  graph-laid =
+      record {
+        nodesRoom = long .nodes;
+        propertiesRoom = long .properties;
+        valuesRoom = omega arith;
+        fits = graph-fits (graphRows x) (passed 21);
+        nodes = hold .nodes;
+        properties = hold .properties;
+        values = hold .values;
+      }
+
   graph-ready : GraphReady (graphRows x) (areas (after .schema) (after .nodes) (after .properties) vs)
-  graph-ready =
-      laid-ready (x .graph) (after .nodes) (after .properties) vs (length (before .nodes)) (length (before .properties)) 8200
-      (long .nodes) (long .properties) (omega arith) (graph-fits (graphRows x) (passed 21)) (hold .nodes) (hold .properties) (hold .values)
-      (after .schema) schema-ready (omega arith) (passed 20)
+  graph-ready = laid-ready graph-laid (after .schema) schema-ready (omega arith) (passed 20)
 
   same-world : worldIn after ≡ worldOf x
   unfolding worldAt

@@ -27,7 +27,7 @@ use Rattle.graph.specs.Held.{NodesHeld, PropertiesHeld}
 use Rattle.search.specs.declared.Counts.{Counts}
 use Rattle.search.specs.Count.{countsOf, Within}
 use Rattle.search.specs.Search.{Areas, limit, pairBase, pairCount, SearchedFor, plainCheck}
-use Rattle.search.specs.Search.{SchemaReady, GraphReady, Ready, GraphTestable, Testable, Clashable}
+use Rattle.search.specs.Search.{SchemaReady, GraphReady, Ready, IndexReady, GraphTestable, Testable, Clashable, Stepping}
 use Rattle.search.proofs.Splitting.{Searched, by-11, by-12, by-13, by-14, by-15, by-21, by-22, by-23, by-24, by-25, by-26, by-31}
 use Rattle.search.proofs.DataSplit.{each-there}
 use Rattle.search.proofs.Sizes.{rows-numbers}
@@ -199,7 +199,7 @@ module _ {n : ℕ} {s : List ℕ} {x : Areas} {here : ℕ} {c : Counts} (g : Goi
 
   -- of 13: the pair stands inside the schema's area
   pair-within : SchemaReady (rows s) x → (j : ℕ) → j < pairCount c (r .letter)
-      → (pairBase (r .letter) + 3 * j + 2 < length (x .schema)) × (j ≤ 1024)
+      → (pairBase (r .letter) + 3 * j + 2 < length (x .schema)) × (j < 1024)
   unfolding countsOf pairCount pairBase
   pair-within sr j k = go (eqb (r .letter) H) (eqb (r .letter) G) (eqb (r .letter) M) refl refl refl
     where
@@ -216,7 +216,7 @@ module _ {n : ℕ} {s : List ℕ} {x : Areas} {here : ℕ} {c : Counts} (g : Goi
       mc = let q = ap (λ (w : Counts). w .members) (g .counts) in omega (arith, counted-within 6, sr .fits .members)
 
       go : (a b d : Bool) → eqb (r .letter) H ≡ a → eqb (r .letter) G ≡ b → eqb (r .letter) M ≡ d
-          → (pairBase (r .letter) + 3 * j + 2 < length (x .schema)) × (j ≤ 1024)
+          → (pairBase (r .letter) + 3 * j + 2 < length (x .schema)) × (j < 1024)
       go true b d p q w = let y : j < c .has = simp p at k in simp p (omega (arith, l, hc), omega (arith, hc))
       go false true d p q w = let y : j < c .takes = simp (p, q) at k in simp (p, q) (omega (arith, l, gc), omega (arith, gc))
       go false false true p q w =
@@ -286,3 +286,9 @@ clashable {x = x} {c = c} g h {r} e by-26 ready j k =
     clash-graph g h e ready 26 (λ q. omega arith) ((ready .1) refl refl) j
     (elim [ inl q ↦ absurd (omega arith) | inr q ↦ datum-edge x c r j k q ]) (λ _ q. datum-property x c r j k q)
 clashable g h e by-31 ready j k = absurd (omega arith)
+
+-- the line can be held against the earlier ones
+pub stepping : {n : ℕ} {s : List ℕ} {x : Areas} {here : ℕ} {c : Counts} (g : Going n s x here c) → here < length s → {r : Read}
+    → r ≡ rowAt s here → Searched n → Ready n (rows s) x → {i : List ℕ} → IndexReady n (x .nodes) (x .properties) i
+    → Stepping n x i c r
+stepping g h e searched ready linked = record { clashable = clashable g h e searched ready; ready = linked }

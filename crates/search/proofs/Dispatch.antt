@@ -1,10 +1,11 @@
 -- The check with a number: what its function may ask of a line, and what its answer says. Laws shaped like the needs. Assumes nothing.
 use Prim.Native.Nat.{ℕ, _+_, _*_, _≤_, _<_}
 use native.Mathlib.Omega.{arith}
-use mathlib.Core.Path.{_≡_, ap, _∙_}
+use mathlib.Core.Path.{_≡_, sym, ap, _∙_}
 use mathlib.Core.Logic.{inl, inr}
-use mathlib.Core.Bool.{Bool, false}
+use mathlib.Core.Bool.{Bool, true, false}
 use mathlib.Core.List.{List}
+use lib.Dec.{eqb}
 use lib.ListN.{length, getD}
 use borrow.Author.Tests.{eq-eqb, ne-eqb, le-ltb}
 use Rattle.rules.specs.Text.{fieldNo, E, G, H, M, P}
@@ -21,7 +22,7 @@ use Rattle.graph.specs.Held.{NodesHeld, PropertiesHeld}
 use Rattle.graph.specs.Faults.{nodesAt, fault22, fault23, fault24E, fault24P, divertsAt, twinEdge, twinProperty}
 use Rattle.search.specs.declared.Counts.{Counts}
 use Rattle.search.specs.Search.{areas, plainCheck, alone, alone11, alone21, alone24, alone31, pairBase, pairCount, limit, clash}
-use Rattle.search.specs.Search.{GraphTestable, Testable, Clashable}
+use Rattle.search.specs.Search.{GraphTestable, Testable, Clashable, indexed, headIn, nextIn, headOf, stepOf, Indexed, IndexReady}
 
 module _ (n : ℕ) (a g p v : List ℕ) (c : Counts) (r : Read) where
   -- ---- a line alone
@@ -191,6 +192,49 @@ pub ruleset limit-laws = (
   limit-none,
 )
 
+-- ---- along the index, or not
+
+module _ (n : ℕ) where
+  pub index-25 : n ≡ 25 → true ≡ indexed n
+  unfolding indexed
+  index-25 e = rw e
+
+  pub index-26 : (n ≡ 25 → ⊥) → (b : Bool) → b ≡ eqb n 26 → b ≡ indexed n
+  unfolding indexed
+  index-26 no25 b e = rw (ne-eqb n 25 no25) e
+
+  -- the chain of the line's node, by its letter
+  module _ (g p x : List ℕ) (r : Read) (b : Bool) (is : b ≡ indexed n) where
+    pub head-edges : b ≡ true → r .letter ≡ E → headIn x 0 (cell g 1) (getD (r .nums) 0 0) ≡ headOf n g p x r
+    unfolding headOf
+    head-edges t l = rw (sym is ∙ t, eq-eqb (r .letter) E l)
+
+    pub head-properties : b ≡ true → (r .letter ≡ E → ⊥) → headIn x 1536 (cell p 0) (getD (r .nums) 0 0) ≡ headOf n g p x r
+    unfolding headOf
+    head-properties t l = rw (sym is ∙ t, ne-eqb (r .letter) E l)
+
+    pub head-first : b ≡ false → 0 ≡ headOf n g p x r
+    unfolding headOf
+    head-first t = rw (sym is ∙ t)
+
+    pub step-edges : (j : ℕ) → b ≡ true → r .letter ≡ E → nextIn x 0 (cell g 1) j ≡ stepOf n g p x r j
+    unfolding stepOf
+    step-edges j t l = rw (sym is ∙ t, eq-eqb (r .letter) E l)
+
+    pub step-properties : (j : ℕ) → b ≡ true → (r .letter ≡ E → ⊥) → nextIn x 1536 (cell p 0) j ≡ stepOf n g p x r j
+    unfolding stepOf
+    step-properties j t l = rw (sym is ∙ t, ne-eqb (r .letter) E l)
+
+    pub step-one : (j : ℕ) → b ≡ false → j + 1 ≡ stepOf n g p x r j
+    unfolding stepOf
+    step-one j t = rw (sym is ∙ t)
+
+    -- what may be asked of the index
+    pub index-asked : IndexReady n g p x → b ≡ true → Indexed g p x
+    index-asked ready t = (ready .linked) (sym is ∙ t)
+
+pub ruleset index-laws = (index-25, index-26)
+
 -- ---- an earlier line
 
 module _ (n : ℕ) (a g p v : List ℕ) (r : Read) (j : ℕ) where
@@ -240,7 +284,7 @@ module _ (n : ℕ) (a g p v : List ℕ) (r : Read) (j : ℕ) where
 
     pair-asked : n ≡ 13 → (base : ℕ) → base ≤ 10000 → pairBase (r .letter) ≡ base → Pair base
     unfolding areas
-    pair-asked e base small q = let h = (ready .pair) e in (omega (arith, h .0, q), (small, h .1))
+    pair-asked e base small q = let h = (ready .pair) e in (omega (arith, h .0, q), (small, omega (arith, h .1)))
 
     pub has-asked : n ≡ 13 → r .letter ≡ H → Pair 776
     unfolding pairBase

@@ -12,3 +12,4 @@ pub mod Asking
 pub mod Plainly
 pub mod Dispatch
 pub mod Chained
+pub mod Walking

@@ -3,7 +3,7 @@ use Prim.Native.Nat.{ℕ, _+_, _*_, _≤_, _<_}
 use mathlib.Core.Path.{_≡_}
 use mathlib.Core.Logic.{_⊎_}
 use mathlib.Core.List.{List, [], _∷_}
-use mathlib.Core.Bool.{Bool, true, false, cond, not, _&&_}
+use mathlib.Core.Bool.{Bool, true, false, cond, not, _&&_, _||_}
 use mathlib.Core.Option.{Option, none}
 use lib.ListN.{length, getD}
 use lib.Dec.{eqb, ltb, leb}
@@ -19,6 +19,7 @@ use Rattle.tables.specs.Layout.{belongs, schemaArea, nodeArea, propertyArea, va
 use Rattle.tables.specs.Fill.{lettered, valuesIn, SchemaFits, GraphFits}
 use Rattle.tables.specs.Read.{cell, schemaAt, graphAt, pairAt, valuesAt}
 use Rattle.tables.proofs.Graphs.{Formed}
+use Rattle.index.specs.Index.{ledTo, Linked}
 use Rattle.schema.specs.Held.{SchemaHeld}
 use Rattle.schema.specs.Faults.{fault12, fault14, fault15}
 use Rattle.graph.specs.Held.{NodesHeld, PropertiesHeld}
@@ -121,6 +122,29 @@ clash n x r j =
     cond (eqb n 13) (pairAt (x .schema) (pairBase l) (getD nums 0 0) (getD nums 1 0) j)
     (cond (eqb n 25) (divertsAt (x .nodes) nums j) (cond (eqb l E) (twinEdge (x .nodes) nums j) (twinProperty (x .properties) nums j)))
 
+-- ---- which of the earlier lines are asked, one after another
+
+-- the checks by which a line clashes with lines of its own node alone, so that the node's chain in the index is walked
+unfoldable pub indexed : ℕ → Bool
+indexed n = eqb n 25 || eqb n 26
+
+-- by the links of a table of n rows, which stand from `base` on: the first row of node u, and the next one of the node of row j
+unfoldable pub headIn : List ℕ → ℕ → ℕ → ℕ → ℕ
+headIn x base n u = cond (ltb u 512) (ledTo n (cell x (base + u))) n
+
+unfoldable pub nextIn : List ℕ → ℕ → ℕ → ℕ → ℕ
+nextIn x base n j = ledTo n (cell x (base + 512 + j))
+
+-- The earlier line that a line is held against first, and the one behind the j-th: along the chain of the line's node, or all in turn.
+unfoldable pub headOf : ℕ → List ℕ → List ℕ → List ℕ → Read → ℕ
+headOf n g p x r =
+    let u = getD (r .nums) 0 0 in
+    cond (indexed n) (cond (eqb (r .letter) E) (headIn x 0 (cell g 1) u) (headIn x 1536 (cell p 0) u)) 0
+
+unfoldable pub stepOf : ℕ → List ℕ → List ℕ → List ℕ → Read → ℕ → ℕ
+stepOf n g p x r j =
+    cond (indexed n) (cond (eqb (r .letter) E) (nextIn x 0 (cell g 1) j) (nextIn x 1536 (cell p 0) j)) (j + 1)
+
 -- ---- what the areas must hold before a check
 
 -- the schema of the text's own rows (checks 12 to 15)
@@ -152,6 +176,17 @@ unfoldable pub Ready : ℕ → List Row → Areas → Type 0
 Ready n rs x =
     ((plainCheck n ≡ false) → ltb n 20 ≡ true → SchemaReady rs x) × ((plainCheck n ≡ false) → ltb n 20 ≡ false → GraphReady rs x)
 
+-- the index of the edges and the properties that two areas hold
+pub record Indexed (g p x : List ℕ) : Type 0 where
+  pub nodesLong : 15880 ≤ length g
+  pub propertiesLong : 14344 ≤ length p
+  pub edges : Linked g 1544 (cell g 1) x 0
+  pub properties : Linked p 8 (cell p 0) x 1536
+
+-- what a check asks of the index
+pub record IndexReady (n : ℕ) (g p x : List ℕ) : Type 0 where
+  pub linked : indexed n ≡ true → Indexed g p x
+
 -- ---- what the code asks before it tests a line
 
 unfoldable pub areas : List ℕ → List ℕ → List ℕ → List ℕ → Areas
@@ -182,7 +217,12 @@ pub record Testable (n : ℕ) (x : Areas) (c : Counts) (r : Read) : Type 0 where
 -- a line, and the j-th earlier line of its kind
 pub record Clashable (n : ℕ) (x : Areas) (r : Read) (j : ℕ) : Type 0 where
   pub long : length (r .nums) ≡ 12
-  pub pair : n ≡ 13 → (pairBase (r .letter) + 3 * j + 2 < length (x .schema)) × (j ≤ 1024)
+  pub pair : n ≡ 13 → (pairBase (r .letter) + 3 * j + 2 < length (x .schema)) × (j < 1024)
   pub edge : (n ≡ 13 → ⊥) → NodesHeld (x .nodes) × PropertiesHeld (x .properties) (x .values) × (getD (r .nums) 3 0 ≤ 4)
   pub inside : (n ≡ 13 → ⊥) → (n ≡ 25) ⊎ (r .letter ≡ E) → j < cell (x .nodes) 1
   pub within : (n ≡ 13 → ⊥) → (n ≡ 25 → ⊥) → (r .letter ≡ E → ⊥) → j < cell (x .properties) 0
+
+-- a line that can be held against the earlier lines that a check asks: those below the limit stand in the areas, in the order of `index`
+pub record Stepping (n : ℕ) (x : Areas) (index : List ℕ) (c : Counts) (r : Read) : Type 0 where
+  pub clashable : (j : ℕ) → j < limit n x c r → Clashable n x r j
+  pub ready : IndexReady n (x .nodes) (x .properties) index

@@ -13,7 +13,7 @@ ghost use Rattle.tables.specs.Layout.{belongs};
 ghost use Rattle.tables.specs.Fill.{Plain, lettered};
 ghost use Rattle.tables.specs.Read.{schemaAt};
 ghost use Rattle.search.specs.Count.{countsOf, countsWith, Within};
-ghost use Rattle.search.specs.Search.{areas, graphIn, checkBy, alone11, alone21, alone31, alone, limit, clash, SearchedFor, Ready, Testable, GraphTestable, Clashable};
+ghost use Rattle.search.specs.Search.{areas, graphIn, checkBy, alone11, alone21, alone31, alone, limit, clash, indexed, headOf, stepOf, SearchedFor, Ready, IndexReady, Testable, GraphTestable, Clashable};
 use rules::Fault;
 use rules::FieldNo;
 use rules::Spot;
@@ -297,12 +297,62 @@ fn clashes(check: u32, r: text::Row, j: usize, a: &[u32], g: &[u32], p: &[u32], 
     graph::twin_property(p, v, nums, j)
 }
 
+// Whether a check walks the index.
+fn by_index(check: u32) -> bool
+    ensures { λ b. ⌜ b ≡ indexed check ⌝ }
+{
+    if check == 25 {
+        return true;
+    }
+    check == 26
+}
+
+// The earlier line that a line is held against first.
+fn first_earlier(check: u32, r: text::Row, g: &[u32], p: &[u32], ix: &[u32]) -> usize
+    requires { ⌜ length (r .nums) ≡ 12 ⌝ }
+    requires { ⌜ IndexReady check (now g) (now p) (now ix) ⌝ }
+    ensures { λ j. ⌜ j ≡ headOf check (now (g .entry)) (now (p .entry)) (now (ix .entry)) r ⌝ }
+{
+    let nums = r.nums;
+    if by_index(check) {
+        if r.letter == b'E' {
+            return index::first_row(ix, 0, g[1] as usize, nums[0]);
+        }
+        return index::first_row(ix, 1536, p[0] as usize, nums[0]);
+    }
+    0
+}
+
+// The earlier line that a line is held against behind the j-th.
+fn next_earlier(check: u32, r: text::Row, g: &[u32], p: &[u32], ix: &[u32], j: usize) -> usize
+    requires { ⌜ IndexReady check (now g) (now p) (now ix) ⌝ }
+    requires { ⌜ j < 1024 ⌝ }
+    ensures { λ k. ⌜ k ≡ stepOf check (now (g .entry)) (now (p .entry)) (now (ix .entry)) r j ⌝ }
+{
+    if by_index(check) {
+        if r.letter == b'E' {
+            return index::next_row(ix, 0, g[1] as usize, j);
+        }
+        return index::next_row(ix, 1536, p[0] as usize, j);
+    }
+    j + 1
+}
+
 // The first line that offends against the check with a number, with the field at fault; line 0 where none does.
-pub fn first_offence(check: u32, s: &[u8], a: &[u32], g: &[u32], p: &[u32], v: &[u32]) -> Spot
+pub fn first_offence(
+    check: u32,
+    s: &[u8],
+    a: &[u32],
+    g: &[u32],
+    p: &[u32],
+    v: &[u32],
+    ix: &[u32],
+) -> Spot
     requires { ⌜ SearchedFor check ⌝ }
     requires { ⌜ length (now s) ≤ 65535 ⌝ }
     requires { ⌜ Each Plain (lines (now s)) ⌝ }
     requires { ⌜ Ready check (rows (now s)) (areas (now a) (now g) (now p) (now v)) ⌝ }
+    requires { ⌜ IndexReady check (now g) (now p) (now ix) ⌝ }
     ensures { λ r. ⌜ r ≡ spotOr (firstLine (checkBy check (schemaAt (now (a .entry))) (graphIn (areas (now (a .entry)) (now (g .entry)) (now (p .entry)) (now (v .entry))))) (rows (now (s .entry)))) ⌝ }
 {
     let mut found = Spot { line: 0, field: 0 };
@@ -319,7 +369,7 @@ pub fn first_offence(check: u32, s: &[u8], a: &[u32], g: &[u32], p: &[u32], v: &
             break 'lines;
         }
         let end = earlier(check, c, r, a, g, p, v) as usize;
-        let mut j: usize = 0;
+        let mut j = first_earlier(check, r, g, p, ix);
         while j < end {
             if clashes(check, r, j, a, g, p, v) {
                 found = Spot {
@@ -328,7 +378,7 @@ pub fn first_offence(check: u32, s: &[u8], a: &[u32], g: &[u32], p: &[u32], v: &
                 };
                 break 'lines;
             }
-            j += 1;
+            j = next_earlier(check, r, g, p, ix, j);
         }
         let nums = r.nums;
         c = c.with_row(

@@ -3,7 +3,7 @@
 use mathlib.Core.Path.{sym, ap, _∙_}
 use borrow.Author.Needs.{needs}
 use Rattle.checks.specs.Verdict.{refusedBy}
-use Rattle.checks.proofs.Opening.{opens-few, opens-searched, opens-ready, at-length, at-form, form-plain, at-maxima, past-maxima}
+use Rattle.checks.proofs.Opening.{opens-few, opens-searched, opens-ready, opens-not-indexed, at-length, at-form, form-plain, at-maxima, past-maxima}
 use Rattle.checks.proofs.judge_form.Statement.{statement}
 use Rattle.checks.proofs.judge_form.Tie as tie
 
@@ -37,7 +37,7 @@ asks-maxima c κs =
     let found = c .before .before in
     let o = from-formed c in
     let plain = form-plain (o .args .n) (o .pre) (o .args .s .now) (found .before .if1 .left) (found .first-broken .ensures) (c .if2 .left) in
-    (opens-searched (o .args .n) (o .pre), (found .before .if1 .left, (plain, opens-ready (o .args .n) (o .pre) _ _)))
+    (opens-searched (o .args .n) (o .pre), (found .before .if1 .left, (plain, (opens-ready (o .args .n) (o .pre) _ _, opens-not-indexed (o .args .n) (o .pre) _ _ _))))
 
 next-number-again : tie.Need-add-refuse
 next-number-again c = let o = from-formed (c .before .before .before) in let few = opens-few (o .args .n) (o .pre) in search needs

@@ -1,11 +1,13 @@
 -- `graph_text::judge_alone` meets its contract: each search strikes one check off those that are left. Assumes nothing.
-use mathlib.Core.Path.{refl, ap, _∙_}
+use mathlib.Core.Path.{_≡_, refl, ap, _∙_}
+use mathlib.Core.Bool.{false}
 use mathlib.Core.List.{List, [], _∷_}
 use Prim.Native.Nat.{ℕ}
+use lib.Dec.{ltb}
 use borrow.Author.Needs.{needs}
-use Rattle.search.specs.Search.{SearchedFor}
+use Rattle.search.specs.Search.{areas, SearchedFor, indexed}
 use Rattle.checks.specs.Verdict.{refusedBy}
-use Rattle.checks.proofs.Judging.{stop, pass, all-passed, ask-graph}
+use Rattle.checks.proofs.Judging.{stop, pass, all-passed, Asked, not-indexed, ask-graph}
 use Rattle.graph_text.proofs.GraphJudging.{AloneLeft, alone-left}
 use Rattle.graph_text.proofs.judge_alone.Statement.{statement}
 use Rattle.graph_text.proofs.judge_alone.Tie as tie
@@ -13,7 +15,7 @@ use Rattle.graph_text.proofs.judge_alone.Tie as tie
 -- ---- the start of the function from each search, and the checks that are left behind it
 
 abbrev start-22 : tie.After-first-offence → tie.Start
-start-22 c = c .before .before .before .before .before .before
+start-22 c = c .before .before .before .before .before .before .before
 
 abbrev start-23 : tie.After-first-offence2 → tie.Start
 start-23 c = start-22 (c .before .before .before)
@@ -40,10 +42,16 @@ left-none c = let found = c .before .before in pass (left-24 (found .before)) (f
 
 -- ---- the answers
 
+-- what each search asks: 22 to 24 do not walk the index
+asked : (o : tie.Start) (n : ℕ) → SearchedFor n → ltb n 20 ≡ false → indexed n ≡ false
+    → Asked n (o .args .s .now) (areas (o .args .a .now) (o .args .g .now) (o .args .p .now) (o .args .v .now)) (o .args .g .now)
+    (o .args .p .now) (o .args .ix .now)
+asked o n f h i =
+    ask-graph n (o .args .s .now) _ f h (not-indexed n _ _ _ i) (o .pre .0) (o .pre .1 .0) (o .pre .1 .1)
+
 asks-22 : tie.Need-first-offence-requires
-unfolding SearchedFor
-asks-22 c κs =
-    let o = c .before .before .before .before .before in ask-graph _ (o .args .s .now) _ refl refl (o .pre)
+unfolding SearchedFor indexed
+asks-22 c κs = asked (c .before .before .before .before .before .before) 22 refl refl refl
 
 returns-22 : tie.Need-returns
 returns-22 c =
@@ -51,8 +59,8 @@ returns-22 c =
     stop (left-22 found) (found .first-offence .ensures) (c .before .if1 .taken) (c .refuse .ensures)
 
 asks-23 : tie.Need-first-offence-requires-2
-unfolding SearchedFor
-asks-23 c κs = let o = start-22 (c .before .before) in ask-graph _ (o .args .s .now) _ refl refl (o .pre)
+unfolding SearchedFor indexed
+asks-23 c κs = asked (start-22 (c .before .before)) 23 refl refl refl
 
 returns-23 : tie.Need-returns-2
 returns-23 c =
@@ -60,8 +68,8 @@ returns-23 c =
     stop (left-23 (found .before)) (found .first-offence2 .ensures) (c .before .if2 .taken) (c .refuse2 .ensures)
 
 asks-24 : tie.Need-first-offence-requires-3
-unfolding SearchedFor
-asks-24 c κs = let o = start-23 (c .before .before) in ask-graph _ (o .args .s .now) _ refl refl (o .pre)
+unfolding SearchedFor indexed
+asks-24 c κs = asked (start-23 (c .before .before)) 24 refl refl refl
 
 returns-24 : tie.Need-returns-3
 returns-24 c =

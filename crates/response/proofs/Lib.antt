@@ -1,3 +1,4 @@
 pub mod Passing
 pub mod Ready
 pub mod Telling
+pub mod Indexed

@@ -1,3 +1,4 @@
 pub mod Targets
 pub mod Asked
 pub mod Reading
+pub mod ByIndex

@@ -19,15 +19,14 @@ use Rattle.rules.proofs.Sums.{Below}
 use Rattle.rules.proofs.Size.{Closed}
 use Rattle.rules.specs.declared.FieldNo.{FieldNo}
 use Rattle.rules.specs.declared.TypeNo.{TypeNo}
-use Rattle.tables.proofs.Those.{those-those}
 use Rattle.tables.specs.Read.{cell, wideAt, startsAt, labelAt, targetsAt, foundAt, graphAt}
-use Rattle.index.specs.Index.{ledTo, ownFrom, chain, Linked}
+use Rattle.index.specs.Index.{ledTo, ownFrom, Linked}
 use Rattle.index.proofs.Firsts.{first-past, first-passes}
 use Rattle.index.proofs.Links.{own-skip}
-use Rattle.index.proofs.Chains.{first-own, next-own, chain-own}
+use Rattle.index.proofs.Chains.{first-own, next-own}
 use Rattle.graph.specs.Held.{NodesHeld, PropertiesHeld}
 use Rattle.graph.specs.Faults.{nodesAt}
-use Rattle.world.specs.World.{worldAt, EdgesHeld, TableHeld, rowsFrom, rowFrom, edgeFrom, targetsFrom, targetsBy, firstOf, lookupAt, foundBy, shapeAt, holdsAt}
+use Rattle.world.specs.World.{worldAt, EdgesHeld, TableHeld, rowsFrom, rowFrom, edgeFrom, targetsFrom, firstOf, lookupAt, foundBy, shapeAt, holdsAt}
 use Rattle.world.specs.declared.Property.the-variants.{Row}
 
 -- ---- tables
@@ -203,16 +202,6 @@ module _ (g : List ℕ) (u : ℕ) (l : Label) where
   targets-few j =
       let es = those (startsAt g 1544 u l) (countUp j (cell g 1 - j)) in
       omega (arith, length-map es (λ e. wideAt g 1544 e 4), few (startsAt g 1544 u l) (cell g 1) (cell g 1 - j) j)
-
-  -- The targets along the chain of a node are its targets.
-  pub by-index : (x : List ℕ) → Linked g 1544 (cell g 1) x 0 → u < 512 → targetsBy g x u l ≡ targetsAt g u l
-  unfolding targetsBy targetsAt startsAt
-  by-index x k h =
-      let n = cell g 1 in
-      let z : u ≡ 0 + u = omega arith in
-      ap (λ (i : ℕ). map (λ e. wideAt g 1544 e 4) (those (λ e. sameLabel (labelAt g 1544 e) l) (chain x 0 n n (ledTo n (cell x i))))) z
-      ∙ ap (λ (js : List ℕ). map (λ e. wideAt g 1544 e 4) (those (λ e. sameLabel (labelAt g 1544 e) l) js)) (chain-own g 1544 n x 0 k u h)
-      ∙ ap (map (λ e. wideAt g 1544 e 4)) (those-those (λ e. eqb (wideAt g 1544 e 2) u) (λ e. sameLabel (labelAt g 1544 e) l) (countUp 0 n))
 
 -- ---- the property
 

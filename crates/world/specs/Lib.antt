@@ -1,1 +1,2 @@
 pub mod World
+pub mod ByIndex

@@ -5,7 +5,7 @@ use lib.ListN.{length, getD}
 use Rattle.rules.specs.Lists.{those, countUp}
 use Rattle.rules.specs.Query.{asked}
 use Rattle.rules.specs.Text.{pairsOf}
-use Rattle.rules.specs.Graph.{Label, sameLabel, Found, nothing, one, many}
+use Rattle.rules.specs.Graph.{Label, Found, nothing, one, many}
 use Rattle.rules.specs.Tree.{Asks, Entry, asksOf}
 use Rattle.rules.specs.World.{World, world, Shape, scalar, list, single, queryNode}
 use Rattle.rules.specs.declared.FieldNo.{FieldNo}
@@ -13,8 +13,8 @@ use Rattle.rules.specs.declared.TypeNo.{TypeNo}
 use Rattle.rules.specs.Eval.{next}
 use mathlib.Core.Bool.{Bool, cond}
 use lib.Dec.{eqb}
-use Rattle.tables.specs.Read.{cell, wideAt, labelAt, schemaAt, startsAt, valuesAt, graphAt}
-use Rattle.index.specs.Index.{ledTo, chain, Linked}
+use Rattle.tables.specs.Read.{cell, wideAt, schemaAt, startsAt, valuesAt, graphAt}
+use Rattle.index.specs.Index.{Linked}
 use Rattle.schema.specs.Held.{SchemaHeld}
 use Rattle.graph.specs.Held.{NodesHeld, PropertiesHeld}
 use Rattle.graph.specs.Faults.{nodesAt}
@@ -89,12 +89,6 @@ edgeFrom g u l j = rowFrom g 1544 (cell g 1) u l j
 
 unfoldable pub targetsFrom : List ℕ → ℕ → Label → ℕ → List ℕ
 targetsFrom g u l j = map (λ e. wideAt g 1544 e 4) (rowsFrom g 1544 (cell g 1) u l j)
-
--- the targets along the chain of node u
-unfoldable pub targetsBy : List ℕ → List ℕ → ℕ → Label → List ℕ
-targetsBy g x u l =
-    let es = chain x 0 (cell g 1) (cell g 1) (ledTo (cell g 1) (cell x u)) in
-    map (λ e. wideAt g 1544 e 4) (those (λ e. sameLabel (labelAt g 1544 e) l) es)
 
 -- ---- "A property lookup either finds one value row or answers that there is none"
 

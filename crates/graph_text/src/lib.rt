@@ -99,9 +99,7 @@ pub fn judge_graph(
     if b.number != 0 {
         return b;
     }
-    tables::lay_nodes(s, g);
-    tables::lay_properties(s, p);
-    tables::lay_values(s, v);
+    tables::lay_graph(s, g, p, v);
     let c = judge_alone(s, a, g, p, v, ix);
     if c.number != 0 {
         return c;

@@ -15,7 +15,7 @@ use Rattle.tables.specs.Layout.{laid, belongs, cells, width, valued, tab
 use Rattle.tables.specs.Fill.{Plain, lettered, cellsOf, valuesIn}
 use Rattle.tables.proofs.Laid.{laid-nil, laid-length, laid-append}
 use Rattle.tables.proofs.Cells.{cells-length}
-use Rattle.tables.proofs.Turns.{Turn, rows-end, count-read, belongs-read, valued-read, cells-read}
+use Rattle.tables.proofs.Turns.{Turn, rows-end, belongs-read, valued-read, cells-read}
 
 -- n rows are laid, up to `place`, and `start` values stand before the rows from `here` on
 pub record Filled (k : ℕ) (s : List ℕ) (base : ℕ) (area₀ area : List ℕ) (n start place here : ℕ) : Type 0 where
@@ -42,7 +42,7 @@ filled-start p h =
       inside = omega arith;
     }
 
-valued-most : (x : Row) → valued x ≤ length (x .numbers)
+pub valued-most : (x : Row) → valued x ≤ length (x .numbers)
 unfolding valued
 valued-most x =
     by-test (is P x)
@@ -81,9 +81,6 @@ module _ {k : ℕ} {s : List ℕ} {base : ℕ} {area₀ area : List ℕ} {n star
   values-are : values ≡ valued x
   unfolding values
   values-are = valued-read x (r .next) r (t .read)
-
-  pub filled-few : r .count ≤ length s
-  filled-few = let i = t .inside in let m = t .few in omega (arith, count-read x (r .next) r (t .read))
 
   pub filled-values : start + valuesIn (r .letter) (r .count) (getD (r .nums) 3 0) ≤ r .next
   unfolding values

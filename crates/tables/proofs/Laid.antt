@@ -1,5 +1,5 @@
 -- Laws of `laid`: some numbers laid over an area from a place on. Assumes nothing.
-use Prim.Native.Nat.{ℕ, suc, _+_, _-_, _≤_, _<_}
+use Prim.Native.Nat.{ℕ, zero, suc, _+_, _-_, _≤_, _<_}
 use native.Mathlib.Omega.{arith}
 use mathlib.Core.Path.{_≡_, sym, ap, _∙_}
 use mathlib.Core.List.{List, [], _∷_, _++_, append-assoc}
@@ -71,6 +71,40 @@ laid-append p xs ys l h =
     ∙ sym (append-assoc (take p l) xs (ys ++ drop (p + length (xs ++ ys)) l))
     ∙ ap (λ (r : List ℕ). r ++ (ys ++ drop (p + length (xs ++ ys)) l)) (sym a)
     ∙ ap (λ (r : List ℕ). take (p + length xs) (laid p xs l) ++ (ys ++ r)) (sym c)
+
+-- behind a number that stays, and with a number in its place
+laid-cons : (p : ℕ) (xs : List ℕ) (x : ℕ) (l : List ℕ) → laid (suc p) xs (x ∷ l) ≡ x ∷ laid p xs l
+unfolding laid
+laid-cons p xs x l =
+    let e : suc p + length xs ≡ suc (p + length xs) = omega arith in
+    ap (λ (k : ℕ). x ∷ (take p l ++ (xs ++ drop k (x ∷ l)))) e
+
+laid-first : (y : ℕ) (ys : List ℕ) (x : ℕ) (l : List ℕ) → laid 0 (y ∷ ys) (x ∷ l) ≡ y ∷ laid 0 ys l
+unfolding laid
+laid-first y ys x l =
+    let e : 0 + suc (length ys) ≡ suc (0 + length ys) = omega arith in
+    ap (λ (k : ℕ). y ∷ (ys ++ drop k (x ∷ l))) e
+
+-- numbers laid in two places that lie apart, in either order
+pub laid-apart : (p q : ℕ) (xs ys l : List ℕ) → q + length ys ≤ p → p + length xs ≤ length l
+    → laid p xs (laid q ys l) ≡ laid q ys (laid p xs l)
+laid-apart p zero xs [] l h k = ap (laid p xs) (laid-nil 0 l) ∙ sym (laid-nil 0 (laid p xs l))
+laid-apart zero zero xs (y ∷ ys) l h k = absurd (omega arith)
+laid-apart (suc p) zero xs (y ∷ ys) [] h k = absurd (omega arith)
+laid-apart (suc p) zero xs (y ∷ ys) (x ∷ l) h k =
+    ap (laid (suc p) xs) (laid-first y ys x l)
+    ∙ laid-cons p xs y (laid 0 ys l)
+    ∙ ap (λ (r : List ℕ). y ∷ r) (laid-apart p 0 xs ys l (omega arith) (omega arith))
+    ∙ sym (laid-first y ys x (laid p xs l))
+    ∙ ap (laid 0 (y ∷ ys)) (sym (laid-cons p xs x l))
+laid-apart zero (suc q) xs ys l h k = absurd (omega arith)
+laid-apart (suc p) (suc q) xs ys [] h k = absurd (omega arith)
+laid-apart (suc p) (suc q) xs ys (x ∷ l) h k =
+    ap (laid (suc p) xs) (laid-cons q ys x l)
+    ∙ laid-cons p xs x (laid q ys l)
+    ∙ ap (λ (r : List ℕ). x ∷ r) (laid-apart p q xs ys l (omega arith) (omega arith))
+    ∙ sym (laid-cons q ys x (laid p xs l))
+    ∙ ap (laid (suc q) ys) (sym (laid-cons p xs x l))
 
 -- one number laid is one number stored
 laid-one : (p x : ℕ) (l : List ℕ) → p < length l → laid p (x ∷ []) l ≡ set l p x

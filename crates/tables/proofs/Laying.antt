@@ -19,10 +19,10 @@ use Rattle.tables.proofs.Stores.{head-stored}
 -- ---- how long a table is
 
 module _ (k : ℕ) (rs : List Row) where
-  narrow-long : k ≤ 7 → length (table k 0 rs) ≡ 3 * counted k rs
+  pub narrow-long : k ≤ 7 → length (table k 0 rs) ≡ 3 * counted k rs
   narrow-long h = narrow-length k rs (le-leb k 7 h)
 
-  wide-long : 7 < k → length (table k 0 rs) ≡ 14 * counted k rs
+  pub wide-long : 7 < k → length (table k 0 rs) ≡ 14 * counted k rs
   wide-long h = wide-table-length k rs (lt-leb k 7 h)
 
 those-most : (p : Row → Bool) (rs : List Row) → length (those p rs) ≤ length rs
@@ -44,6 +44,21 @@ cleared-long n a e = ap length e ∙ length-replicate n 0
 
 laid-long : (n base : ℕ) (xs a b : List ℕ) → length a ≡ n → base + length xs ≤ length a → b ≡ laid base xs a → length b ≡ n
 laid-long n base xs a b l h e = ap length e ∙ laid-length base xs a h ∙ l
+
+-- ---- in the areas of a graph each table has room at its place
+
+module _ (rs : List Row) (f : GraphFits rs) where
+  pub node-room : 8 + length (table 7 0 rs) ≤ 1544
+  node-room = let h = f .nodes in omega (arith, narrow-long 7 rs (omega arith))
+
+  pub edge-room : 1544 + length (table 8 0 rs) ≤ 15880
+  edge-room = let h = f .edges in omega (arith, wide-long 8 rs (omega arith))
+
+  pub property-room : 8 + length (table 9 0 rs) ≤ 14344
+  property-room = let h = f .properties in omega (arith, wide-long 9 rs (omega arith))
+
+  pub value-room : 8 + length (allValues rs) ≤ 8200
+  value-room = let h = f .values in omega arith
 
 -- ---- one table: the properties, the values, the query's entries
 
@@ -68,30 +83,19 @@ module _ (n : ℕ) (xs a₀ : List ℕ) (m : 8 + length xs ≤ n) (e₀ : a₀ �
 module _ (rs : List Row) (n : ℕ) (f : GraphFits rs) where
   module _ (m : 14344 ≤ n) (a₀ : List ℕ) (e₀ : a₀ ≡ replicate n 0) where
     fits-9 : 8 + length (table 9 0 rs) ≤ n
-    fits-9 = let h = f .properties in omega (arith, wide-long 9 rs (omega arith))
+    fits-9 = omega (arith, property-room rs f)
 
-    pub property-room : 8 + length (table 9 0 rs) ≤ length a₀
-    property-room = one-room n (table 9 0 rs) a₀ fits-9 e₀
-
-    module _ (a₁ : List ℕ) (e₁ : a₁ ≡ laid 8 (table 9 0 rs) a₀) (v : ℕ) where
-      pub property-same : length (set a₁ 0 v) ≡ n
-      property-same = one-same n (table 9 0 rs) a₀ fits-9 e₀ a₁ e₁ v
-
-      pub property-laid : v ≡ counted 9 rs → set a₁ 0 v ≡ propertyArea n rs
-      unfolding propertyArea
-      property-laid e = one-laid n (table 9 0 rs) a₀ fits-9 e₀ a₁ e₁ v (counted 9 rs) e
+    pub property-laid : (a₁ : List ℕ) (v : ℕ) → a₁ ≡ laid 8 (table 9 0 rs) a₀ → v ≡ counted 9 rs → set a₁ 0 v ≡ propertyArea n rs
+    unfolding propertyArea
+    property-laid a₁ v e₁ e = one-laid n (table 9 0 rs) a₀ fits-9 e₀ a₁ e₁ v (counted 9 rs) e
 
   module _ (m : 8200 ≤ n) (a₀ : List ℕ) (e₀ : a₀ ≡ replicate n 0) where
     fits-values : 8 + length (allValues rs) ≤ n
-    fits-values = let h = f .values in omega arith
+    fits-values = omega (arith, value-room rs f)
 
-    module _ (a₁ : List ℕ) (e₁ : a₁ ≡ laid 8 (allValues rs) a₀) (v : ℕ) where
-      pub value-same : length (set a₁ 0 v) ≡ n
-      value-same = one-same n (allValues rs) a₀ fits-values e₀ a₁ e₁ v
-
-      pub value-laid : v ≡ length (allValues rs) → set a₁ 0 v ≡ valueArea n rs
-      unfolding valueArea
-      value-laid e = one-laid n (allValues rs) a₀ fits-values e₀ a₁ e₁ v (length (allValues rs)) e
+    pub value-laid : (a₁ : List ℕ) (v : ℕ) → a₁ ≡ laid 8 (allValues rs) a₀ → v ≡ length (allValues rs) → set a₁ 0 v ≡ valueArea n rs
+    unfolding valueArea
+    value-laid a₁ v e₁ e = one-laid n (allValues rs) a₀ fits-values e₀ a₁ e₁ v (length (allValues rs)) e
 
 module _ (rs : List Row) (n : ℕ) (f : length rs ≤ 256) (m : 3592 ≤ n) (a₀ : List ℕ) (e₀ : a₀ ≡ replicate n 0) where
   fits-10 : 8 + length (table 10 0 rs) ≤ n
@@ -110,32 +114,11 @@ module _ (rs : List Row) (n : ℕ) (f : length rs ≤ 256) (m : 3592 ≤ n) (a�
 
 -- ---- nodes and edges
 
-module _ (rs : List Row) (n : ℕ) (f : GraphFits rs) (m : 15880 ≤ n) (a₀ : List ℕ) (e₀ : a₀ ≡ replicate n 0) where
-  pub node-room : 8 + length (table 7 0 rs) ≤ length a₀
-  node-room = let h = f .nodes in omega (arith, cleared-long n a₀ e₀, narrow-long 7 rs (omega arith))
-
-  module _ (a₁ : List ℕ) (e₁ : a₁ ≡ laid 8 (table 7 0 rs) a₀) where
-    node-long : length a₁ ≡ n
-    node-long = laid-long n 8 (table 7 0 rs) a₀ a₁ (cleared-long n a₀ e₀) node-room e₁
-
-    pub edge-room : 1544 + length (table 8 0 rs) ≤ length a₁
-    edge-room = let h = f .edges in omega (arith, node-long, wide-long 8 rs (omega arith))
-
-    module _ (a₂ : List ℕ) (e₂ : a₂ ≡ laid 1544 (table 8 0 rs) a₁) where
-      pub edge-long : length a₂ ≡ n
-      edge-long = laid-long n 1544 (table 8 0 rs) a₁ a₂ node-long edge-room e₂
-
-      pub node-same : (v w : ℕ) → length (set (set a₂ 0 v) 1 w) ≡ n
-      node-same v w = length-set (set a₂ 0 v) 1 w ∙ length-set a₂ 0 v ∙ edge-long
-
-      pub node-laid : (v w : ℕ) → v ≡ counted 7 rs → w ≡ counted 8 rs → set (set a₂ 0 v) 1 w ≡ nodeArea n rs
-      unfolding nodeArea
-      node-laid v w p q =
-          let l = edge-long in
-          head-stored (v ∷ w ∷ []) a₂ (omega arith)
-          ∙ ap (λ (x : ℕ). laid 0 (x ∷ w ∷ []) a₂) p
-          ∙ ap (λ (x : ℕ). laid 0 (counted 7 rs ∷ x ∷ []) a₂) q
-          ∙ ap (laid 0 (counted 7 rs ∷ counted 8 rs ∷ [])) (e₂ ∙ ap (laid 1544 (table 8 0 rs)) (e₁ ∙ ap (laid 8 (table 7 0 rs)) e₀))
+-- cleared, the nodes, the edges, and the head
+pub node-laid : (rs : List Row) (n : ℕ) (a₀ a₁ : List ℕ) (v w : ℕ) → 2 ≤ length a₁ → a₀ ≡ replicate n 0
+    → a₁ ≡ laid 1544 (table 8 0 rs) (laid 8 (table 7 0 rs) a₀) → v ≡ counted 7 rs → w ≡ counted 8 rs → set (set a₁ 0 v) 1 w ≡ nodeArea n rs
+unfolding nodeArea
+node-laid rs n a₀ a₁ v w h e₀ e₁ p q = head-stored (v ∷ w ∷ []) a₁ h ∙ cc
 
 -- ---- the schema
 

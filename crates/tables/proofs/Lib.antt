@@ -8,6 +8,7 @@ pub mod Filling
 pub mod Asking
 pub mod Putting
 pub mod Valuing
+pub mod Together
 pub mod Laying
 pub mod Narrow
 pub mod Views
@@ -15,3 +16,4 @@ pub mod Wide
 pub mod Labelling
 pub mod Areas
 pub mod Graphs
+pub mod GraphLaying

@@ -44,6 +44,12 @@ row-length ((b ∷ c ∷ s) ∷ fs) = omega arith
 numbers-length : (l : Line) → length (row l .numbers) ≤ length (l .bytes)
 numbers-length l = omega (arith, row-length (fields (l .bytes)), fields-length (l .bytes))
 
+-- ---- a line that is read to its end
+
+pub plain-read : (s : List ℕ) (at : ℕ) (r : Read) → Plain (lineAt s at) → r ≡ rowAt s at → r ≡ whole (row (lineAt s at)) (nextAt s at)
+unfolding rowAt
+plain-read s at r p e = e ∙ p .read (nextAt s at)
+
 -- ---- a turn: the line at a position, and the lines behind it
 
 pub record Turn (s : List ℕ) (at : ℕ) (r : Read) : Type 0 where
@@ -60,8 +66,7 @@ module _ (s : List ℕ) (at : ℕ) (r : Read) (p : Each Plain (lines (drop at s)
   split = rw (lines-here s at h) at p
 
   read-here : r ≡ whole (row (lineAt s at)) (nextAt s at)
-  unfolding rowAt
-  read-here = e ∙ split .0 .read (nextAt s at)
+  read-here = plain-read s at r (split .0) e
 
   next-here : r .next ≡ nextAt s at
   unfolding whole
@@ -123,6 +128,13 @@ module _ (x : Row) (n : ℕ) (r : Read) (e : r ≡ whole x n) where
 
   pub cells-read : (k start : ℕ) → cellsOf k start r ≡ cells k start x
   cells-read k start = ap (cellsOf k start) e ∙ whole-cells k start x n
+
+-- no more numbers than the text has bytes
+pub turned-few : {s : List ℕ} {here : ℕ} {r : Read} → Turn s here r → r .count ≤ length s
+turned-few {s} {here} {r} t =
+    let i = t .inside in
+    let m = t .few in
+    omega (arith, count-read (row (lineAt s here)) (r .next) r (t .read))
 
 -- ---- how many values a row has
 

@@ -6,11 +6,12 @@ use mathlib.Core.Bool.{true, cond}
 use lib.ListN.{length, getD}
 use lib.Dec.{eqb, leb}
 use Rattle.rules.specs.Lists.{those}
-use Rattle.rules.specs.Text.{Line, fields, Row, row, at, P, Q}
+use Rattle.rules.specs.Text.{Line, fields, Row, row, at, valuesOf, P, Q}
 use Rattle.rules.specs.Schema.{is, nth}
 use Rattle.text.specs.Line.{padded, rowFrom}
 use Rattle.text.specs.declared.Row.{Row as Read}
-use Rattle.tables.specs.Layout.{counted, allValues}
+use Rattle.tables.specs.Layout.{belongs, width, counted, allValues}
+use Rattle.tables.specs.declared.GraphCounts.{GraphCounts}
 use Rattle.tables.specs.declared.Queries.{Queries}
 
 -- a row as the reader hands it on, where the next line starts at n
@@ -32,9 +33,26 @@ cellsOf k start r =
     cond (leb k 7) (r .letter ∷ getD (r .nums) 0 0 ∷ getD (r .nums) 1 0 ∷ [])
     (cond (eqb k 9) (start ∷ r .count ∷ r .nums) (r .letter ∷ r .count ∷ r .nums))
 
+-- the cells that a row adds to table k, from what was read: none where it does not belong there
+unfoldable pub rowIn : ℕ → ℕ → Read → List ℕ
+rowIn k start r = cond (belongs k (lettered (r .letter))) (cellsOf k start r) []
+
+-- how many cells a row with this letter adds to table k
+unfoldable pub space : ℕ → ℕ → ℕ
+space k letter = cond (belongs k (lettered letter)) (width k) 0
+
 -- how many values a row has, from its letter, the count of its numbers and its n
 unfoldable pub valuesIn : ℕ → ℕ → ℕ → ℕ
 valuesIn l count n = cond (eqb l P) (count - (4 + 2 * n)) 0
+
+-- the values that a row adds: those of a property
+unfoldable pub ownValues : Row → List ℕ
+ownValues r = cond (is P r) (valuesOf r) []
+
+-- how many nodes, edges, properties and values a graph has
+unfoldable pub countsOf : List Row → GraphCounts
+countsOf rs =
+    record { nodes = counted 7 rs; edges = counted 8 rs; properties = counted 9 rs; values = length (allValues rs) }
 
 -- the Q records: how many there are, and the type that the first names
 unfoldable pub queriesIn : List Row → Queries

@@ -6,10 +6,10 @@ ghost use lib.ListN.{length, drop, replicate};
 ghost use Rattle.rules.specs.Text.{rows, row, lines};
 ghost use Rattle.rules.specs.Schema.{isType};
 ghost use Rattle.rules.proofs.Clean.{Each};
-ghost use Rattle.text.specs.Line.{lineAt};
+ghost use Rattle.text.specs.Line.{lineAt, rowAt};
 ghost use Rattle.tables.specs.Layout.{laid, belongs, width, table, counted, allValues, schemaArea, nodeArea, propertyArea, valueArea, queryArea};
 ghost use Rattle.tables.specs.Read.{cell};
-ghost use Rattle.tables.specs.Fill.{Plain, lettered, cellsOf, valuesIn, queriesIn, SchemaFits, GraphFits};
+ghost use Rattle.tables.specs.Fill.{Plain, lettered, cellsOf, rowIn, space, valuesIn, ownValues, countsOf, queriesIn, SchemaFits, GraphFits};
 
 // Zeroes a whole area.
 pub fn clear(area: &mut [u32])
@@ -138,6 +138,19 @@ fn put_row(area: &mut [u32], place: usize, k: u32, start: u32, r: text::Row) -> 
     place + 14
 }
 
+// Lays a row in table k, where it belongs there, at the place where the table's next row goes, and says where the next goes.
+fn put_in(k: u32, area: &mut [u32], place: usize, start: u32, r: text::Row) -> usize
+    requires { ⌜ place + space k (r .letter) ≤ length (now area) ⌝ }
+    requires { ⌜ r .count < 100000 ⌝ }
+    ensures { λ n. ⌜ n ≡ place + space k (r .letter) ⌝ }
+    ensures { λ _. ⌜ now (area .exit) ≡ laid place (rowIn k start r) (now (area .entry)) ⌝ }
+{
+    if belongs_to(k, r.letter) {
+        return put_row(area, place, k, start, r);
+    }
+    place
+}
+
 // Lays table k of an accepted text over an area from a place on, and says how many rows it has.
 fn fill(k: u32, s: &[u8], area: &mut [u32], base: usize) -> u32
     requires { ⌜ length (now s) ≤ 65535 ⌝ }
@@ -192,26 +205,64 @@ fn put_numbers(s: &[u8], at: usize, skip: usize, area: &mut [u32], base: usize) 
     place
 }
 
-// Lays the values of the properties of an accepted graph over an area from a place on, and says how many there are.
-fn fill_values(s: &[u8], area: &mut [u32], base: usize) -> u32
+// Lays the values of the row at `at`, which was read, at the place where the next value goes, and says where the next goes.
+fn put_values(s: &[u8], at: usize, r: text::Row, area: &mut [u32], place: usize) -> usize
+    requires { ⌜ at < length (now s) ⌝ }
+    requires { ⌜ Plain (lineAt (now s) at) ⌝ }
+    requires { ⌜ r ≡ rowAt (now s) at ⌝ }
+    requires { ⌜ place + length (ownValues (row (lineAt (now s) at))) ≤ length (now area) ⌝ }
+    ensures { λ n. ⌜ n ≡ place + length (ownValues (row (lineAt (now (s .entry)) at))) ⌝ }
+    ensures { λ _. ⌜ now (area .exit) ≡ laid place (ownValues (row (lineAt (now (s .entry)) at))) (now (area .entry)) ⌝ }
+{
+    if r.letter == b'P' {
+        let nums = r.nums;
+        return put_numbers(s, at, 4 + 2 * (nums[3] as usize), area, place);
+    }
+    place
+}
+
+// How many nodes, edges, properties and values a graph has.
+struct GraphCounts {
+    nodes: u32,
+    edges: u32,
+    properties: u32,
+    values: u32,
+}
+
+// Lays the nodes and edges of an accepted graph over g, its properties over p and their values over v, in one reading of its text,
+// and says how many there are.
+fn fill_graph(s: &[u8], g: &mut [u32], p: &mut [u32], v: &mut [u32]) -> GraphCounts
     requires { ⌜ length (now s) ≤ 65535 ⌝ }
     requires { ⌜ Each Plain (lines (now s)) ⌝ }
-    requires { ⌜ base + length (allValues (rows (now s))) ≤ length (now area) ⌝ }
-    ensures { λ r. ⌜ r ≡ length (allValues (rows (now (s .entry)))) ⌝ }
-    ensures { λ _. ⌜ now (area .exit) ≡ laid base (allValues (rows (now (s .entry)))) (now (area .entry)) ⌝ }
+    requires { ⌜ GraphFits (rows (now s)) ⌝ }
+    requires { ⌜ 15880 ≤ length (now g) ⌝ }
+    requires { ⌜ 14344 ≤ length (now p) ⌝ }
+    requires { ⌜ 8200 ≤ length (now v) ⌝ }
+    ensures { λ r. ⌜ r ≡ countsOf (rows (now (s .entry))) ⌝ }
+    ensures { λ _. ⌜ now (g .exit) ≡ laid 1544 (table 8 0 (rows (now (s .entry)))) (laid 8 (table 7 0 (rows (now (s .entry)))) (now (g .entry))) ⌝ }
+    ensures { λ _. ⌜ now (p .exit) ≡ laid 8 (table 9 0 (rows (now (s .entry)))) (now (p .entry)) ⌝ }
+    ensures { λ _. ⌜ now (v .exit) ≡ laid 8 (allValues (rows (now (s .entry)))) (now (v .entry)) ⌝ }
 {
-    let mut place = base;
+    let mut nodes: usize = 8;
+    let mut edges: usize = 1544;
+    let mut properties: usize = 8;
+    let mut values: usize = 8;
     let mut at: usize = 0;
     while at < s.len() {
         let r = text::read_row(s, at);
-        let here = at;
+        let start = (values - 8) as u32;
+        nodes = put_in(7, g, nodes, start, r);
+        edges = put_in(8, g, edges, start, r);
+        properties = put_in(9, p, properties, start, r);
+        values = put_values(s, at, r, v, values);
         at = r.next;
-        if r.letter == b'P' {
-            let nums = r.nums;
-            place = put_numbers(s, here, 4 + 2 * (nums[3] as usize), area, place);
-        }
     }
-    (place - base) as u32
+    GraphCounts {
+        nodes: ((nodes - 8) / 3) as u32,
+        edges: ((edges - 1544) / 14) as u32,
+        properties: ((properties - 8) / 14) as u32,
+        values: (values - 8) as u32,
+    }
 }
 
 // How many Q records a schema has, and the type that the first names.
@@ -307,45 +358,26 @@ pub fn lay_schema(s: &[u8], area: &mut [u32])
     put_head(area, things, relations, q);
 }
 
-// Lays the nodes and edges of an accepted graph out.
-pub fn lay_nodes(s: &[u8], area: &mut [u32])
+// Lays the nodes and edges, the properties and their values of an accepted graph out, in one reading of its text.
+pub fn lay_graph(s: &[u8], g: &mut [u32], p: &mut [u32], v: &mut [u32])
     requires { ⌜ length (now s) ≤ 65535 ⌝ }
     requires { ⌜ Each Plain (lines (now s)) ⌝ }
     requires { ⌜ GraphFits (rows (now s)) ⌝ }
-    requires { ⌜ 15880 ≤ length (now area) ⌝ }
-    ensures { λ _. ⌜ now (area .exit) ≡ nodeArea (length (now (area .entry))) (rows (now (s .entry))) ⌝ }
+    requires { ⌜ 15880 ≤ length (now g) ⌝ }
+    requires { ⌜ 14344 ≤ length (now p) ⌝ }
+    requires { ⌜ 8200 ≤ length (now v) ⌝ }
+    ensures { λ _. ⌜ now (g .exit) ≡ nodeArea (length (now (g .entry))) (rows (now (s .entry))) ⌝ }
+    ensures { λ _. ⌜ now (p .exit) ≡ propertyArea (length (now (p .entry))) (rows (now (s .entry))) ⌝ }
+    ensures { λ _. ⌜ now (v .exit) ≡ valueArea (length (now (v .entry))) (rows (now (s .entry))) ⌝ }
 {
-    clear(area);
-    let nodes = fill(7, s, area, 8);
-    let edges = fill(8, s, area, 1544);
-    area[0] = nodes;
-    area[1] = edges;
-}
-
-// Lays the properties of an accepted graph out.
-pub fn lay_properties(s: &[u8], area: &mut [u32])
-    requires { ⌜ length (now s) ≤ 65535 ⌝ }
-    requires { ⌜ Each Plain (lines (now s)) ⌝ }
-    requires { ⌜ GraphFits (rows (now s)) ⌝ }
-    requires { ⌜ 14344 ≤ length (now area) ⌝ }
-    ensures { λ _. ⌜ now (area .exit) ≡ propertyArea (length (now (area .entry))) (rows (now (s .entry))) ⌝ }
-{
-    clear(area);
-    let properties = fill(9, s, area, 8);
-    area[0] = properties;
-}
-
-// Lays the values of the properties of an accepted graph out.
-pub fn lay_values(s: &[u8], area: &mut [u32])
-    requires { ⌜ length (now s) ≤ 65535 ⌝ }
-    requires { ⌜ Each Plain (lines (now s)) ⌝ }
-    requires { ⌜ GraphFits (rows (now s)) ⌝ }
-    requires { ⌜ 8200 ≤ length (now area) ⌝ }
-    ensures { λ _. ⌜ now (area .exit) ≡ valueArea (length (now (area .entry))) (rows (now (s .entry))) ⌝ }
-{
-    clear(area);
-    let values = fill_values(s, area, 8);
-    area[0] = values;
+    clear(g);
+    clear(p);
+    clear(v);
+    let c = fill_graph(s, g, p, v);
+    g[0] = c.nodes;
+    g[1] = c.edges;
+    p[0] = c.properties;
+    v[0] = c.values;
 }
 
 // Lays an accepted query of at most 256 entries out.

@@ -3,8 +3,8 @@ use Prim.Native.Nat.{_+_, _-_, _≤_}
 use native.Mathlib.Omega.{arith}
 use borrow.Author.Needs.{needs}
 use lib.ListN.{length}
-use Rattle.tables.proofs.Turns.{Turn, turn}
-use Rattle.tables.proofs.Filling.{Filled, filled-start, filled-few, filled-values, filled-room, filled-on, filled-by, filled-count, filled-all}
+use Rattle.tables.proofs.Turns.{Turn, turn, turned-few}
+use Rattle.tables.proofs.Filling.{Filled, filled-start, filled-values, filled-room, filled-on, filled-by, filled-count, filled-all}
 use Rattle.tables.proofs.fill.Statement.{statement}
 use Rattle.tables.proofs.fill.Tie as tie
 
@@ -56,7 +56,7 @@ put-row-requires : tie.Need-put-row-requires Inv-loop μ-loop
 put-row-requires c κs =
     let r = c .before .before .before .before .before in
     let f = loop r .loop .inv in
-    let m = filled-few f (turned r) in
+    let m = turned-few (turned r) in
     (filled-room f (turned r) (c .before .before .belongs-to .ensures) (c .before .if1 .taken), omega (arith, start r .pre .0))
 
 add-n : tie.Need-add-n Inv-loop μ-loop

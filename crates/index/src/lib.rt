@@ -1,11 +1,12 @@
-// The index of a graph: of each node its edges and its properties, as chains of rows in the order of the graph.
+// Chains of the rows of a table that have the same key; of them the index of a graph: of each node its edges and its properties, in the
+// order of the graph.
 ghost use mathlib.Core.Path.{_≡_};
 ghost use mathlib.Core.Bool.{cond};
 ghost use Prim.Native.Nat.{_+_, _≤_, _<_};
 ghost use lib.ListN.{length};
 ghost use lib.Dec.{ltb};
 ghost use Rattle.tables.specs.Read.{cell};
-ghost use Rattle.index.specs.Index.{ledTo, Rowed, Blank, LinksLaid, sourcesAt, indexAt};
+ghost use Rattle.index.specs.Index.{ledTo, Rowed, Blank, rowLinked, LinksLaid, sourcesAt, indexAt};
 
 // The row that a link leads to, n where it leads to none.
 fn led_to(n: usize, link: u32) -> usize
@@ -17,10 +18,10 @@ fn led_to(n: usize, link: u32) -> usize
     link as usize - 1
 }
 
-// The first row of node u, by the links from `at` on of a table of n rows; n where it has none.
+// The first row of key u, by the links from `at` on of a table of n rows; n where it has none.
 pub fn first_row(x: &[u32], at: usize, n: usize, u: u32) -> usize
     requires { ⌜ at + 1536 ≤ length (now x) ⌝ }
-    requires { ⌜ at ≤ 1536 ⌝ }
+    requires { ⌜ at ≤ 13064 ⌝ }
     ensures { λ r. ⌜ r ≡ cond (ltb u 512) (ledTo n (cell (now (x .entry)) (at + u))) n ⌝ }
 {
     if u < 512 {
@@ -29,18 +30,30 @@ pub fn first_row(x: &[u32], at: usize, n: usize, u: u32) -> usize
     n
 }
 
-// The next row of the node of row j.
+// The next row of the key of row j.
 pub fn next_row(x: &[u32], at: usize, n: usize, j: usize) -> usize
     requires { ⌜ at + 1536 ≤ length (now x) ⌝ }
-    requires { ⌜ at ≤ 1536 ⌝ }
+    requires { ⌜ at ≤ 13064 ⌝ }
     requires { ⌜ j < 1024 ⌝ }
     ensures { λ r. ⌜ r ≡ ledTo n (cell (now (x .entry)) (at + 512 + j)) ⌝ }
 {
     led_to(n, x[at + 512 + j])
 }
 
-// Lays the links of a table of n rows where zeros stand, from the last row to the first: the node's first link becomes the row's
-// next, and the row becomes the node's first.
+// Puts row j before the rows of a key: the key's first link becomes the row's next, and the row becomes the key's first.
+fn link_row(x: &mut [u32], at: usize, j: usize, key: usize)
+    requires { ⌜ at + 1536 ≤ length (now x) ⌝ }
+    requires { ⌜ at ≤ 13064 ⌝ }
+    requires { ⌜ j < 1024 ⌝ }
+    requires { ⌜ key < 512 ⌝ }
+    ensures { λ _. ⌜ now (x .exit) ≡ rowLinked at j key (now (x .entry)) ⌝ }
+{
+    let first = x[at + key];
+    x[at + 512 + j] = first;
+    x[at + key] = (j + 1) as u32;
+}
+
+// Lays the links of a wide table of n rows where zeros stand, from the last row to the first.
 fn lay_links(a: &[u32], base: usize, n: usize, x: &mut [u32], at: usize)
     requires { ⌜ Rowed (now a) base n ⌝ }
     requires { ⌜ Blank (now x) at ⌝ }
@@ -49,10 +62,8 @@ fn lay_links(a: &[u32], base: usize, n: usize, x: &mut [u32], at: usize)
     let mut j = n;
     while 0 < j {
         j -= 1;
-        let u = at + tables::row_cell(a, base, 14, j, 2) as usize;
-        let first = x[u];
-        x[at + 512 + j] = first;
-        x[u] = (j + 1) as u32;
+        let node = tables::row_cell(a, base, 14, j, 2);
+        link_row(x, at, j, node as usize);
     }
 }
 

@@ -10,7 +10,7 @@ use lib.Dec.{eqb, ltb}
 use lib.ListN.{getD}
 use Rattle.rules.specs.Lists.{any, countUp}
 use Rattle.tables.specs.Read.{cell, wideAt, startsAt}
-use Rattle.index.specs.Index.{ledTo, ownFrom, Linked}
+use Rattle.index.specs.Index.{ledTo, ownFrom, Chained}
 use Rattle.index.proofs.Links.{own-miss, own-past}
 use Rattle.index.proofs.Chains.{first-own, next-own}
 use Rattle.schema.proofs.Searching.{Left, left-all, left-on}
@@ -41,29 +41,29 @@ module _ (p : ℕ → Bool) (n : ℕ) where
 
 -- ---- along a chain
 
--- A test that rows of other nodes do not pass, of the first m rows.
-module _ (a : List ℕ) (base n : ℕ) (x : List ℕ) (at : ℕ) (linked : Linked a base n x at) (u : ℕ) (p : ℕ → Bool)
-    (other : (k : ℕ) → eqb (wideAt a base k 2) u ≡ false → p k ≡ false) (m : ℕ) where
+-- A test that rows of other keys do not pass, of the first m rows.
+module _ (key : ℕ → ℕ) (n : ℕ) (x : List ℕ) (at : ℕ) (linked : Chained key n x at) (u : ℕ) (p : ℕ → Bool)
+    (other : (k : ℕ) → eqb (key k) u ≡ false → p k ≡ false) (m : ℕ) where
   -- it may begin at the head
   pub left-head : (r : ℕ) → r ≡ cond (ltb u 512) (ledTo n (cell x (at + u))) n → Left p m r
   left-head r is =
-      let own = first-own a base n x at linked u r is in
-      left-skip p m 0 r (omega arith) (λ k b c. other k (own-miss a base n u 0 k b (omega (arith, own)))) (left-all p m)
+      let own = first-own key n x at linked u r is in
+      left-skip p m 0 r (omega arith) (λ k b c. other k (own-miss key n u 0 k b (omega (arith, own)))) (left-all p m)
 
-  -- and go on to the next row of the node
-  pub left-next : (j : ℕ) → j < n → wideAt a base j 2 ≡ u → j < m → p j ≡ false → Left p m j → (r : ℕ)
+  -- and go on to the next row of the key
+  pub left-next : (j : ℕ) → j < n → key j ≡ u → j < m → p j ≡ false → Left p m j → (r : ℕ)
       → r ≡ ledTo n (cell x (at + 512 + j)) → Left p m r
   left-next j inside node h t l r is = go (decLt r n)
     where
-      own : r ≡ ownFrom a base n u (j + 1)
-      own = next-own a base n x at linked u j inside node r is
+      own : r ≡ ownFrom key n u (j + 1)
+      own = next-own key n x at linked u j inside node r is
 
       on : j + 1 ≤ r → Left p m r
       on past =
-          left-skip p m (j + 1) r past (λ k b c. other k (own-miss a base n u (j + 1) k b (omega (arith, own)))) (left-on p m j l h t)
+          left-skip p m (j + 1) r past (λ k b c. other k (own-miss key n u (j + 1) k b (omega (arith, own)))) (left-on p m j l h t)
 
       go : Dec (r < n) → Left p m r
-      go (yes d) = on (omega (arith, own, own-past a base n u (j + 1) (omega (arith, own))))
+      go (yes d) = on (omega (arith, own, own-past key n u (j + 1) (omega (arith, own))))
       go (no d) = on (omega arith)
 
 -- ---- the tests of 25 and 26

@@ -1,12 +1,16 @@
 // Chains of the rows of a table that have the same key; of them the index of a graph: of each node its edges and its properties, in the
-// order of the graph.
+// order of the graph; and in the schema's area, of each first number the rows of H, G and M.
 ghost use mathlib.Core.Path.{_≡_};
 ghost use mathlib.Core.Bool.{cond};
 ghost use Prim.Native.Nat.{_+_, _≤_, _<_};
 ghost use lib.ListN.{length};
 ghost use lib.Dec.{ltb};
+ghost use Rattle.rules.specs.Text.{rows, lines};
+ghost use Rattle.rules.proofs.Clean.{Each};
 ghost use Rattle.tables.specs.Read.{cell};
-ghost use Rattle.index.specs.Index.{ledTo, Rowed, Blank, rowLinked, LinksLaid, sourcesAt, indexAt};
+ghost use Rattle.tables.specs.Fill.{Plain, SchemaFits};
+ghost use Rattle.index.specs.Index.{ledTo, keys, Rowed, Blank, rowLinked, LinksLaid, sourcesAt, indexAt};
+ghost use Rattle.index.specs.Buckets.{bucketAt, schemaArea, Linkable};
 
 // The row that a link leads to, n where it leads to none.
 fn led_to(n: usize, link: u32) -> usize
@@ -77,4 +81,34 @@ pub fn lay_index(g: &[u32], p: &[u32], x: &mut [u32])
     tables::clear(x);
     lay_links(g, 1544, g[1] as usize, x, 0);
     lay_links(p, 8, p[0] as usize, x, 1536);
+}
+
+// Lays the links of a narrow table of n rows behind it, where zeros stand, from the last row to the first.
+fn lay_buckets(a: &mut [u32], base: usize, n: usize, at: usize)
+    requires { ⌜ Linkable (now a) base n at ⌝ }
+    ensures { λ _. ⌜ LinksLaid (keys (bucketAt (now (a .entry)) base) n) at (now (a .entry)) (now (a .exit)) ⌝ }
+{
+    let mut j = n;
+    while 0 < j {
+        j -= 1;
+        let first = tables::row_cell(a, base, 3, j, 1);
+        link_row(a, at, j, (first % 512) as usize);
+    }
+}
+
+// Lays an accepted schema out: its tables, and the links of those that are looked through by their first numbers.
+pub fn lay_schema(s: &[u8], a: &mut [u32])
+    requires { ⌜ length (now s) ≤ 65535 ⌝ }
+    requires { ⌜ Each Plain (lines (now s)) ⌝ }
+    requires { ⌜ SchemaFits (rows (now s)) ⌝ }
+    requires { ⌜ 14600 ≤ length (now a) ⌝ }
+    ensures { λ _. ⌜ now (a .exit) ≡ schemaArea (length (now (a .entry))) (rows (now (s .entry))) ⌝ }
+{
+    tables::lay_schema(s, a);
+    let has = a[3] as usize;
+    let takes = a[4] as usize;
+    let members = a[5] as usize;
+    lay_buckets(a, 776, has, 9992);
+    lay_buckets(a, 3848, takes, 11528);
+    lay_buckets(a, 6920, members, 13064);
 }

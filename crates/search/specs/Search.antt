@@ -15,7 +15,8 @@ use Rattle.rules.specs.Graph.{Graph, check21, check22, check23, check24, check2
 use Rattle.rules.specs.Query.{check31}
 use Rattle.rules.proofs.Clean.{Each}
 use Rattle.text.specs.declared.Row.{Row as Read}
-use Rattle.tables.specs.Layout.{belongs, schemaArea, nodeArea, propertyArea, valueArea}
+use Rattle.tables.specs.Layout.{belongs, nodeArea, propertyArea, valueArea}
+use Rattle.index.specs.Buckets.{schemaArea}
 use Rattle.tables.specs.Fill.{lettered, valuesIn, SchemaFits, GraphFits}
 use Rattle.tables.specs.Read.{cell, schemaAt, graphAt, pairAt, valuesAt}
 use Rattle.tables.proofs.Graphs.{Formed}
@@ -125,7 +126,7 @@ clash n x r j =
 
 -- the schema of the text's own rows (checks 12 to 15)
 pub record SchemaReady (rs : List Row) (x : Areas) : Type 0 where
-  pub long : 9992 ≤ length (x .schema)
+  pub long : 14600 ≤ length (x .schema)
   pub fits : SchemaFits rs
   pub held : x .schema ≡ schemaArea (length (x .schema)) rs
 

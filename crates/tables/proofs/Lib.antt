@@ -10,7 +10,7 @@ pub mod Putting
 pub mod Valuing
 pub mod Laying
 pub mod Narrow
-pub mod Views
+pub mod Schemas
 pub mod Wide
 pub mod Labelling
 pub mod Areas

@@ -10,10 +10,11 @@ use Rattle.rules.specs.Text.{rows, Q}
 use Rattle.rules.specs.Search.{firstLine, spot}
 use Rattle.rules.specs.Schema.{Schema, schemaOf, is, check12, check13, check14, check15, check16}
 use Rattle.rules.specs.Answer.{_by_}
-use Rattle.tables.specs.Layout.{schemaArea, schemaHead}
+use Rattle.tables.specs.Layout.{schemaHead}
+use Rattle.index.specs.Buckets.{schemaArea}
 use Rattle.tables.specs.Fill.{SchemaFits}
 use Rattle.tables.specs.Read.{cell, schemaAt}
-use Rattle.tables.proofs.Views.{schema-view, schema-head, schema-length}
+use Rattle.index.proofs.Views.{schema-view, schema-head, schema-length}
 use Rattle.form.specs.Form.{formsOf}
 use Rattle.search.specs.Search.{areas, graphIn, checkBy, SchemaReady}
 use Rattle.checks.specs.declared.Verdict.{Verdict}
@@ -76,7 +77,7 @@ unfolding maximaOf
 fits-11 s o = schema-fits (rows s) (o .few)
 
 -- the area laid out can be searched
-pub laid-ready : (s a : List ℕ) (n : ℕ) → 9992 ≤ n → Opened 10 s → a ≡ schemaArea n (rows s)
+pub laid-ready : (s a : List ℕ) (n : ℕ) → 14600 ≤ n → Opened 10 s → a ≡ schemaArea n (rows s)
     → SchemaReady (rows s) (areas a a a a)
 unfolding areas
 laid-ready s a n l o e =
@@ -89,7 +90,7 @@ module _ (s area : List ℕ) (n : ℕ) {b : Verdict} (form : b ≡ judged (formC
   refused l h = record { is = opening-refused 10 opens-10 s form (laterSchema s) h; long = l; held = λ z. absurd (h z) }
 
   -- the whole verdict, from that on the rows
-  pub accepted : b .number ≡ 0 → 9992 ≤ n → area ≡ schemaArea n (rows s) → {v : Verdict} → v ≡ judged (laterSchema s)
+  pub accepted : b .number ≡ 0 → 14600 ≤ n → area ≡ schemaArea n (rows s) → {v : Verdict} → v ≡ judged (laterSchema s)
       → SchemaJudged s n area v
   unfolding formsOf formChecks maximaOf laterSchema
   accepted z l e j =

@@ -14,7 +14,7 @@ use Rattle.rules.specs.Graph.{check21}
 use Rattle.rules.specs.Query.{check31}
 use Rattle.rules.specs.Answer.{Texts, Numbered, _by_, verdict, schemaIn, schemaChecks, graphChecks, queryChecks}
 use Rattle.rules.specs.declared.Spot.{Spot}
-use Rattle.tables.specs.Layout.{schemaArea}
+use Rattle.index.specs.Buckets.{schemaArea}
 use Rattle.form.specs.Form.{formsOf}
 use Rattle.checks.specs.declared.Verdict.{Verdict}
 

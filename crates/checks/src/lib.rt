@@ -81,13 +81,13 @@ fn judge_schema_rows(s: &[u8], a: &[u32]) -> Verdict
 
 // The verdict on a schema's text. Where it is accepted, the area holds it.
 pub fn judge_schema(s: &[u8], a: &mut [u32]) -> Verdict
-    requires { ⌜ 9992 ≤ length (now a) ⌝ }
+    requires { ⌜ 14600 ≤ length (now a) ⌝ }
     ensures { λ r. ⌜ SchemaJudged (now (s .entry)) (length (now (a .entry))) (now (a .exit)) r ⌝ }
 {
     let b = judge_form(10, s, a);
     if b.number != 0 {
         return b;
     }
-    tables::lay_schema(s, a);
+    index::lay_schema(s, a);
     judge_schema_rows(s, a)
 }

@@ -10,33 +10,31 @@ use Rattle.rules.specs.Schema.{is, nth}
 use Rattle.rules.specs.Graph.{source}
 use Rattle.tables.specs.Layout.{belongs, counted, nodeArea, propertyArea}
 use Rattle.tables.specs.Fill.{GraphFits}
-use Rattle.tables.specs.Read.{cell, wideAt}
+use Rattle.tables.specs.Read.{cell}
 use Rattle.tables.proofs.Wide.{StandsWide, wide-number}
 use Rattle.tables.proofs.Areas.{node-length, edge-count, edges-stand, property-length, property-count, properties-stand}
-use Rattle.index.specs.Index.{nextLink, linkCell, indexBy, sources, indexArea, sourcesAt, indexAt, ledTo, ownFrom, Rowed, Linked}
-use Rattle.index.proofs.Links.{led-own, sources-at}
+use Rattle.index.specs.Index.{nextLink, linkCell, indexBy, sources, indexArea, sourcesAt, indexAt, ledTo, ownFrom, nodeAt, keys, Keyed, Rowed, Chained, Linked}
+use Rattle.index.proofs.Links.{led-own, keys-at}
 use Rattle.index.proofs.Laying.{cell-first, cell-next, index-edge, index-property, index-length}
 
 -- ---- the index of two tables
 
-module _ (a : List ℕ) (base n : ℕ) (rowed : Rowed a base n) (x : List ℕ) (at : ℕ) where
-  pub linked-by : at + 1536 ≤ length x → at ≤ 1536 → ((i : ℕ) → i < 1536 → cell x (at + i) ≡ linkCell (sourcesAt a base n) i)
-      → Linked a base n x at
+module _ (key : ℕ → ℕ) (n : ℕ) (keyed : Keyed key n) (x : List ℕ) (at : ℕ) where
+  pub linked-by : at + 1536 ≤ length x → at ≤ 13064 → ((i : ℕ) → i < 1536 → cell x (at + i) ≡ linkCell (keys key n) i) → Chained key n x at
   unfolding nextLink
   linked-by room low cells =
-      let ss = sourcesAt a base n in
-      let few = rowed .few in
+      let ss = keys key n in
+      let few = keyed .few in
       record {
         long = room;
         low = low;
-        few = rowed .few;
-        within = rowed .within;
-        first = λ u h. ap (ledTo n) (cells u (omega arith) ∙ cell-first ss u h) ∙ led-own a base n u 0;
+        keyed = keyed;
+        first = λ u h. ap (ledTo n) (cells u (omega arith) ∙ cell-first ss u h) ∙ led-own key n u 0;
         next = λ j h.
             ap (λ (i : ℕ). ledTo n (cell x i)) (omega arith)
             ∙ ap (ledTo n) (cells (512 + j) (omega arith) ∙ cell-next ss j)
-            ∙ led-own a base n (getD ss j 0) (suc j)
-            ∙ ap (λ (u : ℕ). ownFrom a base n u (suc j)) (sources-at a base n j h);
+            ∙ led-own key n (getD ss j 0) (suc j)
+            ∙ ap (λ (u : ℕ). ownFrom key n u (suc j)) (keys-at key n j h);
       }
 
 module _ (g p x : List ℕ) (edges : Rowed g 1544 (cell g 1)) (properties : Rowed p 8 (cell p 0)) (room : 3072 ≤ length x)
@@ -44,14 +42,14 @@ module _ (g p x : List ℕ) (edges : Rowed g 1544 (cell g 1)) (properties : Rowe
   pub index-edges : Linked g 1544 (cell g 1) x 0
   unfolding indexAt
   index-edges =
-      linked-by g 1544 (cell g 1) edges x 0 (omega arith) (omega arith)
+      linked-by (nodeAt g 1544) (cell g 1) (edges .nodes) x 0 (omega arith) (omega arith)
       (λ i h. ap (cell x) (omega arith) ∙ ap (λ (l : List ℕ). cell l i) is
       ∙ index-edge (length x) (sourcesAt g 1544 (cell g 1)) (sourcesAt p 8 (cell p 0)) i h (omega arith))
 
   pub index-properties : Linked p 8 (cell p 0) x 1536
   unfolding indexAt
   index-properties =
-      linked-by p 8 (cell p 0) properties x 1536 (omega arith) (omega arith)
+      linked-by (nodeAt p 8) (cell p 0) (properties .nodes) x 1536 (omega arith) (omega arith)
       (λ i h. ap (λ (l : List ℕ). cell l (1536 + i)) is
       ∙ index-property (length x) (sourcesAt g 1544 (cell g 1)) (sourcesAt p 8 (cell p 0)) i h (omega arith))
 
@@ -65,13 +63,18 @@ map-places d u v i (x ∷ xs) h =
     ap₂ (λ (y : ℕ) (ys : List ℕ). y ∷ ys) (ap u (omega arith) ∙ h 0 (omega arith))
     (map-places d u v (suc i) xs (λ j k. ap u (omega arith) ∙ h (suc j) (omega arith)))
 
+-- the keys of a table's rows, said of the rows
+pub rows-keys : (key : ℕ → ℕ) (of : Row → ℕ) (k n : ℕ) (rs : List Row) → n ≡ counted k rs
+    → ((j : ℕ) → j < counted k rs → key j ≡ of (nth (belongs k) rs j)) → keys key n ≡ map of (those (belongs k) rs)
+unfolding keys counted
+rows-keys key of k n rs e each =
+    ap (λ (m : ℕ). map key (countUp 0 m)) e
+    ∙ map-places noRow key of 0 (those (belongs k) rs) (λ j h. ap key (omega arith) ∙ each j h)
+
 rows-sources : (a : List ℕ) (k base n : ℕ) (rs : List Row) → StandsWide a k base rs → n ≡ counted k rs
     → sourcesAt a base n ≡ map source (those (belongs k) rs)
-unfolding sourcesAt counted
 rows-sources a k base n rs s e =
-    ap (λ (m : ℕ). map (λ j. wideAt a base j 2) (countUp 0 m)) e
-    ∙ map-places noRow (λ j. wideAt a base j 2) source 0 (those (belongs k) rs)
-    (λ j h. ap (λ (i : ℕ). wideAt a base i 2) (omega arith) ∙ wide-number a k base rs s j h 0 (omega arith))
+    rows-keys (nodeAt a base) source k n rs e (λ j h. wide-number a k base rs s j h 0 (omega arith))
 
 -- Rows of a letter that are each of a node below 512.
 abbrev pub Within : ℕ → List Row → Type 0
@@ -94,12 +97,14 @@ module _ (n m k : ℕ) (rs : List Row) (nodeRoom : 15880 ≤ n) (propertyRoom : 
       record {
         long = omega (arith, c, fits .edges, node-length n rs nodeRoom fits);
         low = omega arith;
-        few = omega (arith, c, fits .edges);
-        within = λ j h. omega (
-          arith,
-          w j (omega (arith, c)),
-          wide-number (nodeArea n rs) 8 1544 rs (edges-stand n rs nodeRoom fits) j (omega (arith, c)) 0 (omega arith),
-        );
+        nodes = record {
+          few = omega (arith, c, fits .edges);
+          within = λ j h. omega (
+            arith,
+            w j (omega (arith, c)),
+            wide-number (nodeArea n rs) 8 1544 rs (edges-stand n rs nodeRoom fits) j (omega (arith, c)) 0 (omega arith),
+          );
+        };
       }
 
   pub properties-rowed : Within P rs → Rowed (propertyArea m rs) 8 (cell (propertyArea m rs) 0)
@@ -109,12 +114,14 @@ module _ (n m k : ℕ) (rs : List Row) (nodeRoom : 15880 ≤ n) (propertyRoom : 
       record {
         long = omega (arith, c, fits .properties, property-length m rs propertyRoom fits);
         low = omega arith;
-        few = omega (arith, c, fits .properties);
-        within = λ j h. omega (
-          arith,
-          w j (omega (arith, c)),
-          wide-number (propertyArea m rs) 9 8 rs (properties-stand m rs propertyRoom fits) j (omega (arith, c)) 0 (omega arith),
-        );
+        nodes = record {
+          few = omega (arith, c, fits .properties);
+          within = λ j h. omega (
+            arith,
+            w j (omega (arith, c)),
+            wide-number (propertyArea m rs) 9 8 rs (properties-stand m rs propertyRoom fits) j (omega (arith, c)) 0 (omega arith),
+          );
+        };
       }
 
   module _ (room : 3072 ≤ k) (edges : Within E rs) (properties : Within P rs) where

@@ -2,16 +2,16 @@
 use Prim.Native.Nat.{ℕ, suc, _+_, _*_, _-_, _≤_, _<_}
 use native.Mathlib.Omega.{arith}
 use native.Mathlib.Decide.{decLt, ℕ-discrete}
-use mathlib.Core.Path.{_≡_, refl, sym, ap, _∙_}
+use mathlib.Core.Path.{_≡_, refl, sym, ap, _∙_, subst}
 use mathlib.Core.Bool.{Bool, cond}
 use mathlib.Core.List.{List}
 use lib.Dec.{ltb}
 use lib.ListN.{length, getD, set, replicate, length-set, length-replicate, getD-replicate}
 use lib.Seq.{getD-set-same, getD-set-other, ext-getD}
 use borrow.Author.Tests.{lt-ltb, le-ltb}
-use Rattle.tables.specs.Read.{cell, wideAt}
-use Rattle.index.specs.Index.{linkFrom, firstLink, nextLink, linkCell, indexCell, indexBy, sourcesAt, Rowed, Blank, LinksLaid}
-use Rattle.index.proofs.Links.{tabled-length, tabled-at, sources-at, link-own, link-other, link-end}
+use Rattle.tables.specs.Read.{cell}
+use Rattle.index.specs.Index.{linkFrom, firstLink, nextLink, linkCell, indexCell, indexBy, keys, Keyed, Blank, rowLinked, LinksLaid}
+use Rattle.index.proofs.Links.{tabled-length, tabled-at, keys-length, keys-at, link-own, link-other, link-end}
 
 -- ---- cells of the links and of the index
 
@@ -107,8 +107,8 @@ module _ (ss : List ℕ) (at : ℕ) (x₀ : List ℕ) where
   -- a turn: row i before the row j that was last taken
   module _ (x : List ℕ) (j i : ℕ) (l : Linking ss at x₀ x j) (here : j ≡ suc i) (few : length ss ≤ 1024) (room : at + 1536 ≤ length x₀)
       (s : ℕ) (es : s ≡ getD ss i 0) (small : s < 512) where
-    pub links-on : Linking ss at x₀ (set (set x (at + 512 + i) (cell x (at + s))) (at + s) (i + 1)) i
-    unfolding nextLink
+    pub links-on : Linking ss at x₀ (rowLinked at i s x) i
+    unfolding nextLink rowLinked
     links-on =
         record {
           same = stored-length x p q v w ∙ l .same;
@@ -172,16 +172,20 @@ module _ (ss : List ℕ) (at : ℕ) (x₀ : List ℕ) where
           ∙ sym (cell-next ss (i - 512))
           ∙ ap (linkCell ss) e
 
--- ---- what the loop reads of the table
+-- ---- the same of the keys that a loop reads: key j is r
 
-module _ (a : List ℕ) (base n j r : ℕ) (rowed : Rowed a base n) (inside : j < n) (is : r ≡ cell a (base + 14 * j + 2)) where
-  pub node-small : r < 512
-  unfolding wideAt
-  node-small = omega (arith, is, (rowed .within) j inside)
+module _ (key : ℕ → ℕ) (n at : ℕ) (x₀ : List ℕ) (keyed : Keyed key n) (blank : Blank x₀ at) where
+  pub keys-start : Linking (keys key n) at x₀ x₀ n
+  keys-start = links-start (keys key n) at x₀ n (keys-length key n) blank
 
-  pub node-source : r ≡ getD (sourcesAt a base n) j 0
-  unfolding wideAt
-  node-source = is ∙ sym (sources-at a base n j inside)
+  pub keys-on : (x : List ℕ) (j i : ℕ) → Linking (keys key n) at x₀ x j → j ≡ suc i → (r : ℕ) → r ≡ key i → (y : List ℕ) → y ≡ rowLinked at i r x
+      → Linking (keys key n) at x₀ y i
+  keys-on x j i l here r is y laid =
+      let few : length (keys key n) ≤ 1024 = omega (arith, keys-length key n, keyed .few) in
+      let inside : i < n = omega (arith, keys-length key n, l .left) in
+      subst (λ (m : List ℕ). Linking (keys key n) at x₀ m i) (sym laid)
+      (links-on (keys key n) at x₀ x j i l here few (blank .long) r (is ∙ sym (keys-at key n i inside))
+      (omega (arith, is, (keyed .within) i inside)))
 
 -- ---- both tables
 

@@ -4,3 +4,5 @@ pub mod Chains
 pub mod Laying
 pub mod Areas
 pub mod Declared
+pub mod Buckets
+pub mod Views

@@ -9,8 +9,8 @@ use lib.ListN.{length, getD, drop, drop-of-length-le}
 use lib.Seq.{drop-cons}
 use borrow.Author.Tests.{eqb-true, eq-eqb, ne-eqb, lt-ltb, le-ltb}
 use Rattle.rules.specs.Lists.{those, keepIf, countUp}
-use Rattle.tables.specs.Read.{cell, wideAt}
-use Rattle.index.specs.Index.{link, linkFrom, sourcesAt, ledTo, ownFrom}
+use Rattle.tables.specs.Read.{cell}
+use Rattle.index.specs.Index.{link, linkFrom, keys, ledTo, ownFrom}
 use Rattle.index.proofs.Firsts.{first-past, first-passes, first-misses, skipped}
 
 -- ---- what a link leads to, as the code says it
@@ -28,7 +28,7 @@ module _ (n l : ℕ) where
       go zero h = absurd (h refl)
       go (suc m) h = omega arith
 
--- ---- the first row of a node: by its link, and of a number that is no node's
+-- ---- the first row of a key: by its link, and of a number that is no key's
 
 module _ (x : List ℕ) (at n u : ℕ) where
   pub first-in : (r : ℕ) → u < 512 → r ≡ ledTo n (cell x (at + u)) → r ≡ cond (ltb u 512) (ledTo n (cell x (at + u))) n
@@ -37,7 +37,7 @@ module _ (x : List ℕ) (at n u : ℕ) where
   pub first-out : 512 ≤ u → n ≡ cond (ltb u 512) (ledTo n (cell x (at + u))) n
   first-out h = sym (ap (λ (b : Bool). cond b (ledTo n (cell x (at + u))) n) (le-ltb u 512 h))
 
--- ---- a table's nodes by their places
+-- ---- a table's keys by their places
 
 tabled : {A : Type 0} (f : ℕ → A) (d : A) (n i k : ℕ) → k < n → getD (map f (countUp i n)) k d ≡ f (i + k)
 tabled f d zero i k h = absurd (omega arith)
@@ -77,58 +77,55 @@ module _ (ss : List ℕ) (u j : ℕ) where
   unfolding linkFrom link
   link-end h = ap (link u j) (drop-of-length-le ss {i = j} h)
 
--- ---- the row that a link leads to is the node's first from there on
+-- ---- the row that a link leads to is the key's first from there on
 
-module _ (a : List ℕ) (base n : ℕ) where
-  abbrev pub source : ℕ → ℕ
-  source j = wideAt a base j 2
-
-  led-first : (u k j : ℕ) → ledTo n (link u j (map source (countUp j k))) ≡ getD (those (λ i. eqb (source i) u) (countUp j k)) 0 n
+module _ (key : ℕ → ℕ) (n : ℕ) where
+  led-first : (u k j : ℕ) → ledTo n (link u j (map key (countUp j k))) ≡ getD (those (λ i. eqb (key i) u) (countUp j k)) 0 n
   unfolding link ledTo
   led-first u zero j = refl
-  led-first u (suc k) j = go (led-first u k (suc j)) (eqb (source j) u)
+  led-first u (suc k) j = go (led-first u k (suc j)) (eqb (key j) u)
     where
-      go : ledTo n (link u (suc j) (map source (countUp (suc j) k))) ≡ getD (those (λ i. eqb (source i) u) (countUp (suc j) k)) 0 n
-          → (b : Bool) → ledTo n (cond b (suc j) (link u (suc j) (map source (countUp (suc j) k))))
-          ≡ getD (keepIf b j (those (λ i. eqb (source i) u) (countUp (suc j) k))) 0 n
+      go : ledTo n (link u (suc j) (map key (countUp (suc j) k))) ≡ getD (those (λ i. eqb (key i) u) (countUp (suc j) k)) 0 n
+          → (b : Bool) → ledTo n (cond b (suc j) (link u (suc j) (map key (countUp (suc j) k))))
+          ≡ getD (keepIf b j (those (λ i. eqb (key i) u) (countUp (suc j) k))) 0 n
       go ih true = refl
       go ih false = ih
 
-  pub led-own : (u j : ℕ) → ledTo n (linkFrom (sourcesAt a base n) u j) ≡ ownFrom a base n u j
-  unfolding linkFrom sourcesAt ownFrom
+  pub led-own : (u j : ℕ) → ledTo n (linkFrom (keys key n) u j) ≡ ownFrom key n u j
+  unfolding linkFrom keys ownFrom
   led-own u j =
       let z : 0 + j ≡ j = omega arith in
-      ap (λ (l : List ℕ). ledTo n (link u j l)) (tabled-drop source n 0 j)
-      ∙ ap (λ (i : ℕ). ledTo n (link u j (map source (countUp i (n - j))))) z
+      ap (λ (l : List ℕ). ledTo n (link u j l)) (tabled-drop key n 0 j)
+      ∙ ap (λ (i : ℕ). ledTo n (link u j (map key (countUp i (n - j))))) z
       ∙ led-first u (n - j) j
 
-  pub sources-length : length (sourcesAt a base n) ≡ n
-  unfolding sourcesAt
-  sources-length = tabled-length source n 0
+  pub keys-length : length (keys key n) ≡ n
+  unfolding keys
+  keys-length = tabled-length key n 0
 
-  pub sources-at : (j : ℕ) → j < n → getD (sourcesAt a base n) j 0 ≡ source j
-  unfolding sourcesAt
-  sources-at j h = tabled-at source 0 n j h
+  pub keys-at : (j : ℕ) → j < n → getD (keys key n) j 0 ≡ key j
+  unfolding keys
+  keys-at j h = tabled-at key 0 n j h
 
-  -- ---- the node's first row from row j on: none of its rows stands before it, and it is its row
+  -- ---- the key's first row from row j on: none of its rows stands before it, and it is its row
 
   module _ (u j : ℕ) where
-    pub own-miss : (i : ℕ) → j ≤ i → i < ownFrom a base n u j → eqb (source i) u ≡ false
+    pub own-miss : (i : ℕ) → j ≤ i → i < ownFrom key n u j → eqb (key i) u ≡ false
     unfolding ownFrom
-    own-miss i l h = first-misses (λ k. eqb (source k) u) n (n - j) j i refl l h
+    own-miss i l h = first-misses (λ k. eqb (key k) u) n (n - j) j i refl l h
 
-    pub own-past : ownFrom a base n u j < n → j ≤ ownFrom a base n u j
+    pub own-past : ownFrom key n u j < n → j ≤ ownFrom key n u j
     unfolding ownFrom
-    own-past h = first-past (λ k. eqb (source k) u) n (n - j) j refl h
+    own-past h = first-past (λ k. eqb (key k) u) n (n - j) j refl h
 
-    pub own-hit : ownFrom a base n u j < n → source (ownFrom a base n u j) ≡ u
+    pub own-hit : ownFrom key n u j < n → key (ownFrom key n u j) ≡ u
     unfolding ownFrom
     own-hit h =
-        eqb-true (source (ownFrom a base n u j)) u (first-passes (λ k. eqb (source k) u) n (n - j) j refl h)
+        eqb-true (key (ownFrom key n u j)) u (first-passes (λ k. eqb (key k) u) n (n - j) j refl h)
 
-    -- rows of the node that pass a test stand from it on
-    pub own-skip : (q : ℕ → Bool) → ((i : ℕ) → q i ≡ true → source i ≡ u)
-        → those q (countUp j (n - j)) ≡ those q (countUp (ownFrom a base n u j) (n - ownFrom a base n u j))
+    -- rows of the key that pass a test stand from it on
+    pub own-skip : (q : ℕ → Bool) → ((i : ℕ) → q i ≡ true → key i ≡ u)
+        → those q (countUp j (n - j)) ≡ those q (countUp (ownFrom key n u j) (n - ownFrom key n u j))
     unfolding ownFrom
     own-skip q s =
-        skipped (λ k. eqb (source k) u) n q (λ i t. eq-eqb (source i) u (s i t)) (n - j) j refl
+        skipped (λ k. eqb (key k) u) n q (λ i t. eq-eqb (key i) u (s i t)) (n - j) j refl

@@ -1,11 +1,16 @@
-// The index of a graph: of each node its edges and its properties, as chains of rows in the order of the graph.
+// Chains of the rows of a table that have the same key; of them the index of a graph: of each node its edges and its properties, in the
+// order of the graph; and in the schema's area, of each first number the rows of H, G and M.
 ghost use mathlib.Core.Path.{_≡_};
 ghost use mathlib.Core.Bool.{cond};
 ghost use Prim.Native.Nat.{_+_, _≤_, _<_};
 ghost use lib.ListN.{length};
 ghost use lib.Dec.{ltb};
+ghost use Rattle.rules.specs.Text.{rows, lines};
+ghost use Rattle.rules.proofs.Clean.{Each};
 ghost use Rattle.tables.specs.Read.{cell};
-ghost use Rattle.index.specs.Index.{ledTo, Rowed, Blank, LinksLaid, sourcesAt, indexAt};
+ghost use Rattle.tables.specs.Fill.{Plain, SchemaFits};
+ghost use Rattle.index.specs.Index.{ledTo, keys, Rowed, Blank, rowLinked, LinksLaid, sourcesAt, indexAt};
+ghost use Rattle.index.specs.Buckets.{bucketAt, schemaArea, Linkable};
 
 // The row that a link leads to, n where it leads to none.
 fn led_to(n: usize, link: u32) -> usize
@@ -17,10 +22,10 @@ fn led_to(n: usize, link: u32) -> usize
     link as usize - 1
 }
 
-// The first row of node u, by the links from `at` on of a table of n rows; n where it has none.
+// The first row of key u, by the links from `at` on of a table of n rows; n where it has none.
 pub fn first_row(x: &[u32], at: usize, n: usize, u: u32) -> usize
     requires { ⌜ at + 1536 ≤ length (now x) ⌝ }
-    requires { ⌜ at ≤ 1536 ⌝ }
+    requires { ⌜ at ≤ 13064 ⌝ }
     ensures { λ r. ⌜ r ≡ cond (ltb u 512) (ledTo n (cell (now (x .entry)) (at + u))) n ⌝ }
 {
     if u < 512 {
@@ -29,18 +34,30 @@ pub fn first_row(x: &[u32], at: usize, n: usize, u: u32) -> usize
     n
 }
 
-// The next row of the node of row j.
+// The next row of the key of row j.
 pub fn next_row(x: &[u32], at: usize, n: usize, j: usize) -> usize
     requires { ⌜ at + 1536 ≤ length (now x) ⌝ }
-    requires { ⌜ at ≤ 1536 ⌝ }
+    requires { ⌜ at ≤ 13064 ⌝ }
     requires { ⌜ j < 1024 ⌝ }
     ensures { λ r. ⌜ r ≡ ledTo n (cell (now (x .entry)) (at + 512 + j)) ⌝ }
 {
     led_to(n, x[at + 512 + j])
 }
 
-// Lays the links of a table of n rows where zeros stand, from the last row to the first: the node's first link becomes the row's
-// next, and the row becomes the node's first.
+// Puts row j before the rows of a key: the key's first link becomes the row's next, and the row becomes the key's first.
+fn link_row(x: &mut [u32], at: usize, j: usize, key: usize)
+    requires { ⌜ at + 1536 ≤ length (now x) ⌝ }
+    requires { ⌜ at ≤ 13064 ⌝ }
+    requires { ⌜ j < 1024 ⌝ }
+    requires { ⌜ key < 512 ⌝ }
+    ensures { λ _. ⌜ now (x .exit) ≡ rowLinked at j key (now (x .entry)) ⌝ }
+{
+    let first = x[at + key];
+    x[at + 512 + j] = first;
+    x[at + key] = (j + 1) as u32;
+}
+
+// Lays the links of a wide table of n rows where zeros stand, from the last row to the first.
 fn lay_links(a: &[u32], base: usize, n: usize, x: &mut [u32], at: usize)
     requires { ⌜ Rowed (now a) base n ⌝ }
     requires { ⌜ Blank (now x) at ⌝ }
@@ -49,10 +66,8 @@ fn lay_links(a: &[u32], base: usize, n: usize, x: &mut [u32], at: usize)
     let mut j = n;
     while 0 < j {
         j -= 1;
-        let u = at + tables::row_cell(a, base, 14, j, 2) as usize;
-        let first = x[u];
-        x[at + 512 + j] = first;
-        x[u] = (j + 1) as u32;
+        let node = tables::row_cell(a, base, 14, j, 2);
+        link_row(x, at, j, node as usize);
     }
 }
 
@@ -66,4 +81,34 @@ pub fn lay_index(g: &[u32], p: &[u32], x: &mut [u32])
     tables::clear(x);
     lay_links(g, 1544, g[1] as usize, x, 0);
     lay_links(p, 8, p[0] as usize, x, 1536);
+}
+
+// Lays the links of a narrow table of n rows behind it, where zeros stand, from the last row to the first.
+fn lay_buckets(a: &mut [u32], base: usize, n: usize, at: usize)
+    requires { ⌜ Linkable (now a) base n at ⌝ }
+    ensures { λ _. ⌜ LinksLaid (keys (bucketAt (now (a .entry)) base) n) at (now (a .entry)) (now (a .exit)) ⌝ }
+{
+    let mut j = n;
+    while 0 < j {
+        j -= 1;
+        let first = tables::row_cell(a, base, 3, j, 1);
+        link_row(a, at, j, (first % 512) as usize);
+    }
+}
+
+// Lays an accepted schema out: its tables, and the links of those that are looked through by their first numbers.
+pub fn lay_schema(s: &[u8], a: &mut [u32])
+    requires { ⌜ length (now s) ≤ 65535 ⌝ }
+    requires { ⌜ Each Plain (lines (now s)) ⌝ }
+    requires { ⌜ SchemaFits (rows (now s)) ⌝ }
+    requires { ⌜ 14600 ≤ length (now a) ⌝ }
+    ensures { λ _. ⌜ now (a .exit) ≡ schemaArea (length (now (a .entry))) (rows (now (s .entry))) ⌝ }
+{
+    tables::lay_schema(s, a);
+    let has = a[3] as usize;
+    let takes = a[4] as usize;
+    let members = a[5] as usize;
+    lay_buckets(a, 776, has, 9992);
+    lay_buckets(a, 3848, takes, 11528);
+    lay_buckets(a, 6920, members, 13064);
 }

@@ -13,10 +13,11 @@ use Rattle.rules.specs.Search.{spot, whole}
 use Rattle.rules.specs.Schema.{Schema, schemaOf}
 use Rattle.rules.specs.Answer.{Texts, schemaIn, schemaChecks, graphChecks, queryChecks}
 use Rattle.rules.proofs.Clean.{Each, each-append}
-use Rattle.tables.specs.Layout.{schemaArea, nodeArea, propertyArea, valueArea, queryArea}
+use Rattle.tables.specs.Layout.{nodeArea, propertyArea, valueArea, queryArea}
+use Rattle.index.specs.Buckets.{schemaArea}
 use Rattle.tables.specs.Read.{schemaAt}
 use Rattle.tables.specs.Fill.{SchemaFits}
-use Rattle.tables.proofs.Views.{schema-view}
+use Rattle.index.proofs.Views.{schema-view}
 use Rattle.index.specs.Index.{indexArea}
 use Rattle.schema.specs.Held.{SchemaHeld}
 use Rattle.search.proofs.Calls.{schema-held}
@@ -45,7 +46,7 @@ query-numbers t s = (omega arith, (omega arith, (omega arith, (omega arith, (ome
 
 -- areas none of which is too short
 pub record Long (w : Lent) : Type 0 where
-  pub schema : 9992 ≤ length (w .schema)
+  pub schema : 14600 ≤ length (w .schema)
   pub nodes : 15880 ≤ length (w .nodes)
   pub properties : 14344 ≤ length (w .properties)
   pub values : 8200 ≤ length (w .values)
@@ -56,7 +57,7 @@ pub enough : (w : Lent) → Long w → tooShortOf w ≡ false
 unfolding tooShortOf workAreas
 enough w long =
     rw (
-      le-ltb (length (w .schema)) 9992 (long .schema),
+      le-ltb (length (w .schema)) 14600 (long .schema),
       le-ltb (length (w .nodes)) 15880 (long .nodes),
       le-ltb (length (w .properties)) 14344 (long .properties),
       le-ltb (length (w .values)) 8200 (long .values),
@@ -88,27 +89,27 @@ long-areas w h =
 
 -- the first area that is too short
 module _ (w : Lent) where
-  pub short-schema : length (w .schema) < 9992 → true ≡ tooShortOf w
+  pub short-schema : length (w .schema) < 14600 → true ≡ tooShortOf w
   unfolding tooShortOf workAreas
-  short-schema h = rw (lt-ltb (length (w .schema)) 9992 h)
+  short-schema h = rw (lt-ltb (length (w .schema)) 14600 h)
 
-  module _ (a : 9992 ≤ length (w .schema)) where
+  module _ (a : 14600 ≤ length (w .schema)) where
     pub short-nodes : length (w .nodes) < 15880 → true ≡ tooShortOf w
     unfolding tooShortOf workAreas
-    short-nodes h = rw (le-ltb (length (w .schema)) 9992 a, lt-ltb (length (w .nodes)) 15880 h)
+    short-nodes h = rw (le-ltb (length (w .schema)) 14600 a, lt-ltb (length (w .nodes)) 15880 h)
 
     module _ (g : 15880 ≤ length (w .nodes)) where
       pub short-properties : length (w .properties) < 14344 → true ≡ tooShortOf w
       unfolding tooShortOf workAreas
       short-properties h =
-          rw (le-ltb (length (w .schema)) 9992 a, le-ltb (length (w .nodes)) 15880 g, lt-ltb (length (w .properties)) 14344 h)
+          rw (le-ltb (length (w .schema)) 14600 a, le-ltb (length (w .nodes)) 15880 g, lt-ltb (length (w .properties)) 14344 h)
 
       module _ (p : 14344 ≤ length (w .properties)) where
         pub short-values : length (w .values) < 8200 → true ≡ tooShortOf w
         unfolding tooShortOf workAreas
         short-values h =
             rw (
-              le-ltb (length (w .schema)) 9992 a,
+              le-ltb (length (w .schema)) 14600 a,
               le-ltb (length (w .nodes)) 15880 g,
               le-ltb (length (w .properties)) 14344 p,
               lt-ltb (length (w .values)) 8200 h,
@@ -119,7 +120,7 @@ module _ (w : Lent) where
           unfolding tooShortOf workAreas
           short-index h =
               rw (
-                le-ltb (length (w .schema)) 9992 a,
+                le-ltb (length (w .schema)) 14600 a,
                 le-ltb (length (w .nodes)) 15880 g,
                 le-ltb (length (w .properties)) 14344 p,
                 le-ltb (length (w .values)) 8200 v,
@@ -130,7 +131,7 @@ module _ (w : Lent) where
           unfolding tooShortOf workAreas
           short-query x =
               rw (
-                le-ltb (length (w .schema)) 9992 a,
+                le-ltb (length (w .schema)) 14600 a,
                 le-ltb (length (w .nodes)) 15880 g,
                 le-ltb (length (w .properties)) 14344 p,
                 le-ltb (length (w .values)) 8200 v,
@@ -162,7 +163,7 @@ module _ (s g q : List ℕ) (w : Lent) (long : tooShortOf w ≡ false) where
           held = λ z. absurd (h z);
         }
 
-    module _ (room : 9992 ≤ n) (z : b .number ≡ 0) where
+    module _ (room : 14600 ≤ n) (z : b .number ≡ 0) where
       passes : Each Passes (schemaChecks s)
       passes = passed (schemaChecks s) (schema-numbers s) (ap number (sym (j .is)) ∙ z)
 

@@ -15,7 +15,7 @@ use Rattle.rules.specs.Answer.{Texts, schemaIn, graphIn, worldOf}
 use Rattle.rules.proofs.Bools.{some-none}
 use Rattle.tables.specs.Layout.{nodeArea, propertyArea}
 use Rattle.tables.specs.Read.{schemaAt, graphAt}
-use Rattle.tables.proofs.Views.{schema-view}
+use Rattle.index.proofs.Views.{schema-view}
 use Rattle.tables.proofs.Graphs.{graph-view, graph-formed}
 use Rattle.checks.specs.declared.Verdict.{Verdict}
 use Rattle.checks.specs.Verdict.{textChecks}

@@ -1,3 +1,4 @@
 pub mod Letters
 pub mod Searching
+pub mod Following
 pub mod Checks

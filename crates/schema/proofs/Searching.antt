@@ -43,14 +43,9 @@ module _ (a : List ℕ) (base n x y j : ℕ) (b : Bool) where
   unfolding pairIn
   pair-found k h e t = sym (left-found (pairAt a base x y) n j k h (sym e ∙ t))
 
-  pub pair-on : Left (pairAt a base x y) n j → j < n → b ≡ pairAt a base x y j → b ≡ false → Left (pairAt a base x y) n (j + 1)
-  pair-on k h e t = left-on (pairAt a base x y) n j k h (sym e ∙ t)
-
 pub pair-ended : (a : List ℕ) (base n x y j : ℕ) → Left (pairAt a base x y) n j → n ≤ j → false ≡ pairIn a base n x y
 unfolding pairIn
 pair-ended a base n x y j k h = sym (left-ended (pairAt a base x y) n j k h)
-
-pub ruleset pair-laws = (left-all, pair-found, pair-on, pair-ended)
 
 -- a row with one number, v
 module _ (a : List ℕ) (base n x j v : ℕ) where
@@ -83,27 +78,30 @@ any-those p q g h (j ∷ js) = kept (p j) (any-those p q g h js)
 unfoldable pub lacksAt : List ℕ → TypeNo → TypeNo → ℕ → Bool
 lacksAt a t o j = firstAt a 776 (t .0) j && not (hasField (schemaAt a) o (fieldNo (cell a (776 + 3 * j + 2))))
 
+pub lacks-first : (a : List ℕ) (t o : TypeNo) (j : ℕ) → firstAt a 776 (t .0) j ≡ false → lacksAt a t o j ≡ false
+unfolding lacksAt
+lacks-first a t o j h = rw h
+
 pub lacks-any : (a : List ℕ) (t o : TypeNo) → lacks a t o ≡ any (lacksAt a t o) (countUp 0 (cell a 3))
 unfolding lacks lacksAt schemaAt secondsIn
 lacks-any a t o = any-those (firstAt a 776 (t .0)) _ _ fieldNo (countUp 0 (cell a 3))
 
-module _ (a : List ℕ) (t o : TypeNo) (j : ℕ) (k : Left (lacksAt a t o) (cell a 3) j) where
-  -- v and w are the numbers of the row, b is whether o has the field w
-  module _ (v : ℕ) (h : j < cell a 3) (f : v ≡ cell a (776 + 3 * j + 1)) where
-    pub lacks-other : (v ≡ t .0 → ⊥) → Left (lacksAt a t o) (cell a 3) (j + 1)
+-- v and w are the numbers of the row, b is whether o has the field w
+module _ (a : List ℕ) (t o : TypeNo) (j v : ℕ) (f : v ≡ cell a (776 + 3 * j + 1)) where
+  pub lacks-other : (v ≡ t .0 → ⊥) → lacksAt a t o j ≡ false
+  unfolding lacksAt firstAt
+  lacks-other e = simp (← f, ne-eqb v (t .0) e)
+
+  module _ (w : ℕ) (b : Bool) (e : v ≡ t .0) (g : w ≡ cell a (776 + 3 * j + 2)) (d : b ≡ hasField (schemaAt a) o (fieldNo w)) where
+    pub lacks-not : b ≡ true → lacksAt a t o j ≡ false
     unfolding lacksAt firstAt
-    lacks-other e = left-on (lacksAt a t o) (cell a 3) j k h (simp (← f, ne-eqb v (t .0) e))
+    lacks-not n = simp (← f, eq-eqb v (t .0) e, ← g, ← d, n)
 
-    module _ (w : ℕ) (b : Bool) (e : v ≡ t .0) (g : w ≡ cell a (776 + 3 * j + 2)) (d : b ≡ hasField (schemaAt a) o (fieldNo w)) where
-      pub lacks-found : b ≡ false → true ≡ lacks a t o
-      unfolding lacksAt firstAt
-      lacks-found n = sym (lacks-any a t o ∙ left-found (lacksAt a t o) (cell a 3) j k h (simp (← f, eq-eqb v (t .0) e, ← g, ← d, n)))
+    pub lacks-found : Left (lacksAt a t o) (cell a 3) j → j < cell a 3 → b ≡ false → true ≡ lacks a t o
+    unfolding lacksAt firstAt
+    lacks-found k h n = sym (lacks-any a t o ∙ left-found (lacksAt a t o) (cell a 3) j k h (simp (← f, eq-eqb v (t .0) e, ← g, ← d, n)))
 
-      pub lacks-not : b ≡ true → Left (lacksAt a t o) (cell a 3) (j + 1)
-      unfolding lacksAt firstAt
-      lacks-not n = left-on (lacksAt a t o) (cell a 3) j k h (simp (← f, eq-eqb v (t .0) e, ← g, ← d, n))
+pub lacks-ended : (a : List ℕ) (t o : TypeNo) (j : ℕ) → Left (lacksAt a t o) (cell a 3) j → cell a 3 ≤ j → false ≡ lacks a t o
+lacks-ended a t o j k h = sym (lacks-any a t o ∙ left-ended (lacksAt a t o) (cell a 3) j k h)
 
-  pub lacks-ended : cell a 3 ≤ j → false ≡ lacks a t o
-  lacks-ended h = sym (lacks-any a t o ∙ left-ended (lacksAt a t o) (cell a 3) j k h)
-
-pub ruleset lacks-laws = (not-true, not-false, left-all, lacks-found, lacks-other, lacks-not, lacks-ended)
+pub ruleset lacks-laws = (not-true, not-false, lacks-found, lacks-ended)

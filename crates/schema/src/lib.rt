@@ -5,6 +5,8 @@ ghost use lib.ListN.{length};
 ghost use Rattle.rules.specs.Search.{asFault};
 ghost use Rattle.rules.specs.Schema.{kind, fieldType, listMark, hasField, takesArg, declaredType, declaredField, declaredArg, argType, queryType, isScalar, isObject, ownsFields, hasMembers, inRange, compatible};
 ghost use Rattle.tables.specs.Read.{cell, narrowAt, pairAt, pairIn, firstIn, schemaAt};
+ghost use Rattle.index.specs.Index.{Chained};
+ghost use Rattle.index.specs.Buckets.{bucketAt};
 ghost use Rattle.schema.specs.Held.{SchemaHeld};
 ghost use Rattle.schema.specs.Faults.{fault12, fault14, fault15, lacks};
 use rules::ArgNo;
@@ -39,20 +41,20 @@ pub fn pair_at(a: &[u32], base: usize, x: u32, y: u32, j: usize) -> bool
     false
 }
 
-// Whether one of the first n rows of a narrow table has the numbers x and y.
-fn pair_in(a: &[u32], base: usize, n: u32, x: u32, y: u32) -> bool
+// Whether one of the first n rows of a narrow table has the numbers x and y, looked for along the chain of x; the links stand from `at` on.
+fn pair_along(a: &[u32], base: usize, at: usize, n: u32, x: u32, y: u32) -> bool
     requires { ⌜ base + 3 * n ≤ length (now a) ⌝ }
     requires { ⌜ base ≤ 10000 ⌝ }
-    requires { ⌜ n ≤ 1024 ⌝ }
+    requires { ⌜ Chained (bucketAt (now a) base) n (now a) at ⌝ }
     ensures { λ r. ⌜ r ≡ pairIn (now (a .entry)) base n x y ⌝ }
 {
     let end = n as usize;
-    let mut j: usize = 0;
+    let mut j = index::first_row(a, at, end, x % 512);
     while j < end {
         if pair_at(a, base, x, y, j) {
             return true;
         }
-        j += 1;
+        j = index::next_row(a, at, end, j);
     }
     false
 }
@@ -201,7 +203,7 @@ pub fn has_field(a: &[u32], t: TypeNo, f: FieldNo) -> bool
     requires { ⌜ SchemaHeld (now a) ⌝ }
     ensures { λ r. ⌜ r ≡ hasField (schemaAt (now (a .entry))) t f ⌝ }
 {
-    pair_in(a, 776, a[3], t.0, f.0)
+    pair_along(a, 776, 9992, a[3], t.0, f.0)
 }
 
 // Whether field f takes the argument x (G).
@@ -209,7 +211,7 @@ pub fn takes_arg(a: &[u32], f: FieldNo, x: ArgNo) -> bool
     requires { ⌜ SchemaHeld (now a) ⌝ }
     ensures { λ r. ⌜ r ≡ takesArg (schemaAt (now (a .entry))) f x ⌝ }
 {
-    pair_in(a, 3848, a[4], f.0, x.0)
+    pair_along(a, 3848, 11528, a[4], f.0, x.0)
 }
 
 // Whether the object type o is compatible with t.
@@ -220,7 +222,7 @@ pub fn is_compatible(a: &[u32], o: TypeNo, t: TypeNo) -> bool
     if o.0 == t.0 {
         return true;
     }
-    pair_in(a, 6920, a[5], t.0, o.0)
+    pair_along(a, 6920, 13064, a[5], t.0, o.0)
 }
 
 // The type of the query node (Q).
@@ -231,20 +233,20 @@ pub fn query_type(a: &[u32]) -> TypeNo
     TypeNo(a[7])
 }
 
-// Whether a field of t is missing from o.
+// Whether a field of t is missing from o: the fields of t stand along its chain.
 fn lacks_field(a: &[u32], t: TypeNo, o: TypeNo) -> bool
     requires { ⌜ SchemaHeld (now a) ⌝ }
     ensures { λ r. ⌜ r ≡ lacks (now (a .entry)) t o ⌝ }
 {
     let end = a[3] as usize;
-    let mut j: usize = 0;
+    let mut j = index::first_row(a, 9992, end, t.0 % 512);
     while j < end {
         if tables::row_cell(a, 776, 3, j, 1) == t.0 {
             if !has_field(a, o, FieldNo(tables::row_cell(a, 776, 3, j, 2))) {
                 return true;
             }
         }
-        j += 1;
+        j = index::next_row(a, 9992, end, j);
     }
     false
 }

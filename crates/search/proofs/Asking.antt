@@ -203,7 +203,7 @@ module _ {n : ℕ} {s : List ℕ} {x : Areas} {here : ℕ} {c : Counts} (g : Goi
   unfolding countsOf pairCount pairBase
   pair-within sr j k = go (eqb (r .letter) H) (eqb (r .letter) G) (eqb (r .letter) M) refl refl refl
     where
-      l : 9992 ≤ length (x .schema)
+      l : 14600 ≤ length (x .schema)
       l = sr .long
 
       hc : c .has ≤ 1024

@@ -8,7 +8,8 @@ use Rattle.rules.specs.Lists.{those, each}
 use Rattle.rules.specs.Text.{Row, noRow, at, valuesOf, P}
 use Rattle.rules.specs.Schema.{is, nth}
 use Rattle.rules.proofs.Clean.{Each}
-use Rattle.tables.specs.Layout.{laid, belongs, counted, allValues, schemaArea, nodeArea, propertyArea, valueArea}
+use Rattle.tables.specs.Layout.{laid, belongs, counted, allValues, nodeArea, propertyArea, valueArea}
+use Rattle.index.specs.Buckets.{schemaArea}
 use Rattle.tables.specs.Fill.{SchemaFits, GraphFits}
 use Rattle.tables.specs.Read.{wideAt}
 use Rattle.tables.proofs.Laid.{laid-length}
@@ -17,11 +18,14 @@ use Rattle.tables.proofs.Wide.{wide-tag, wide-count, wide-number}
 use Rattle.tables.proofs.Labelling.{Formed, edge-labelled, property-labelled}
 use Rattle.tables.proofs.Areas.{values-before, each-split, node-length, node-count, edge-count, edges-stand}
 use Rattle.tables.proofs.Areas.{property-length, property-count, properties-stand}
-use Rattle.tables.proofs.Views.{type-table, field-table, arg-table, has-table, takes-table, member-table, schema-length, schema-count}
-use Rattle.schema.specs.Held.{SchemaHeld}
+use Rattle.tables.proofs.Schemas.{type-table, field-table, arg-table, has-table, takes-table, member-table}
+use Rattle.index.proofs.Buckets.{has-links, takes-links, member-links, schema-linked}
+use Rattle.index.proofs.Views.{schema-length, schema-count}
+use Rattle.schema.specs.Held.{Bucketed, SchemaHeld}
 use Rattle.graph.specs.Held.{NodesHeld, PropertiesHeld}
 
-pub schema-held : (n : ℕ) (rs : List Row) → 9992 ≤ n → SchemaFits rs → SchemaHeld (schemaArea n rs)
+pub schema-held : (n : ℕ) (rs : List Row) → 14600 ≤ n → SchemaFits rs → SchemaHeld (schemaArea n rs)
+unfolding Bucketed
 schema-held n rs room fits =
     record {
       long = omega (arith, schema-length n rs room fits);
@@ -31,6 +35,9 @@ schema-held n rs room fits =
       has = omega (arith, schema-count n rs room fits has-table, fits .has);
       takes = omega (arith, schema-count n rs room fits takes-table, fits .takes);
       members = omega (arith, schema-count n rs room fits member-table, fits .members);
+      hasLinks = schema-linked n rs room fits has-links;
+      takesLinks = schema-linked n rs room fits takes-links;
+      memberLinks = schema-linked n rs room fits member-links;
     }
 
 module _ (n : ℕ) (rs : List Row) (room : 15880 ≤ n) (fits : GraphFits rs) (formed : Each Formed rs) where

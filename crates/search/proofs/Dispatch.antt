@@ -16,13 +16,14 @@ use Rattle.rules.specs.declared.Fault.the-variants.{Fine}
 use Rattle.rules.specs.declared.TypeNo.{TypeNo}
 use Rattle.text.specs.declared.Row.{Row as Read}
 use Rattle.tables.specs.Read.{cell, schemaAt, pairAt, valuesAt}
+use Rattle.index.specs.Index.{headIn, nextIn}
 use Rattle.schema.specs.Held.{SchemaHeld}
 use Rattle.schema.specs.Faults.{fault12, fault14, fault15}
 use Rattle.graph.specs.Held.{NodesHeld, PropertiesHeld}
 use Rattle.graph.specs.Faults.{nodesAt, fault22, fault23, fault24E, fault24P, divertsAt, twinEdge, twinProperty}
 use Rattle.search.specs.declared.Counts.{Counts}
 use Rattle.search.specs.Search.{areas, plainCheck, alone, alone11, alone21, alone24, alone31, pairBase, pairCount, limit, clash}
-use Rattle.search.specs.Search.{GraphTestable, Testable, Clashable, indexed, headIn, nextIn, headOf, stepOf, Indexed, IndexReady}
+use Rattle.search.specs.Search.{GraphTestable, Testable, Clashable, indexed, headOf, stepOf, Indexed, IndexReady}
 
 module _ (n : ℕ) (a g p v : List ℕ) (c : Counts) (r : Read) where
   -- ---- a line alone

@@ -14,12 +14,13 @@ use Rattle.rules.specs.Search.{_#_, worse, faultIf, fault}
 use Rattle.rules.specs.Schema.{is, isType, states, check12, check13, check14, check15}
 use Rattle.text.specs.Line.{padded}
 use Rattle.text.proofs.Tools.{by-test}
-use Rattle.tables.specs.Layout.{belongs, counted, schemaArea}
+use Rattle.tables.specs.Layout.{belongs, counted}
+use Rattle.index.specs.Buckets.{schemaArea}
 use Rattle.tables.specs.Fill.{SchemaFits}
 use Rattle.tables.specs.Read.{schemaAt, pairAt, pairIn}
 use Rattle.tables.proofs.Those.{those-reverse, any-reverse}
 use Rattle.tables.proofs.Wide.{padded-at}
-use Rattle.tables.proofs.Views.{PairTable, has-pairs, takes-pairs, member-pairs, pairs-before}
+use Rattle.index.proofs.Views.{PairTable, has-pairs, takes-pairs, member-pairs, pairs-before}
 use Rattle.schema.specs.Faults.{rowFor, fault12, fault14, fault15}
 use Rattle.search.specs.Count.{countsOf}
 use Rattle.search.specs.Search.{pairBase, pairCount}
@@ -53,7 +54,7 @@ module _ (a : List ℕ) (ps : List Row) (r : Row) (rs : List Row) where
 
 -- ---- 13: a pair that stands earlier
 
-module _ (n : ℕ) (ps rs : List Row) (room : 9992 ≤ n) (fits : SchemaFits (ps ++ rs)) (u v : ℕ) where
+module _ (n : ℕ) (ps rs : List Row) (room : 14600 ≤ n) (fits : SchemaFits (ps ++ rs)) (u v : ℕ) where
   -- what the rows say of the letter l, and what the area says
   abbrev Paired : ℕ → Type 0
   Paired l =
@@ -89,7 +90,7 @@ module _ (n : ℕ) (ps rs : List Row) (room : 9992 ≤ n) (fits : SchemaFits (ps
       (λ e. subst Paired (sym (eqb-true l G e)) takes-paired)
       (λ g. by-test (eqb l M) (λ e. subst Paired (sym (eqb-true l M e)) member-paired) (λ m. other-paired l h g m)))
 
-pub split-13 : (a : List ℕ) (ps : List Row) (r : Row) (rs : List Row) → 9992 ≤ length a → SchemaFits (ps ++ r ∷ rs)
+pub split-13 : (a : List ℕ) (ps : List Row) (r : Row) (rs : List Row) → 14600 ≤ length a → SchemaFits (ps ++ r ∷ rs)
     → a ≡ schemaArea (length a) (ps ++ r ∷ rs)
     → fault (check13 (reverse ps) r rs)
     ≡ faultIf

@@ -12,11 +12,13 @@ use borrow.Author.Tests.{eqb-true, eqb-false}
 use Rattle.rules.specs.Text.{E}
 use Rattle.text.specs.declared.Row.{Row as Read}
 use Rattle.tables.specs.Read.{cell, wideAt}
+use Rattle.index.specs.Index.{nodeAt, headIn, nextIn}
 use Rattle.graph.specs.Faults.{divertsAt, twinEdge, twinProperty}
 use Rattle.search.specs.declared.Counts.{Counts}
-use Rattle.search.specs.Search.{Areas, limit, clash, indexed, headIn, nextIn, headOf, stepOf, Indexed, Clashable, Stepping}
+use Rattle.search.specs.Search.{Areas, limit, clash, indexed, headOf, stepOf, Indexed, Clashable, Stepping}
 use Rattle.search.proofs.Splitting.{Searched, by-11, by-12, by-13, by-14, by-15, by-21, by-22, by-23, by-24, by-25, by-26, by-31}
-use Rattle.search.proofs.Chained.{Seeking, seek-all, seek-none, seek-chain, diverts-other, edge-other, property-other}
+use Rattle.schema.proofs.Following.{Seeking, seek-all, seek-none, seek-chain}
+use Rattle.search.proofs.Chained.{diverts-other, edge-other, property-other}
 
 -- the search of a check has come to the j-th earlier line
 abbrev pub SeekingAt : ℕ → Areas → List ℕ → Read → ℕ → ℕ → Type 0
@@ -46,11 +48,11 @@ module _ (x : Areas) (i : List ℕ) (c : Counts) (r : Read) (ready : Indexed (x 
 
   seek-edges : (p : ℕ → Bool) → ((k : ℕ) → eqb (wideAt (x .nodes) 1544 k 2) node ≡ false → p k ≡ false) → ((j : ℕ) → j < m → j < edges)
       → Seeking p m (nextIn i 0 edges) (headIn i 0 edges node)
-  seek-edges p other inside = seek-chain (x .nodes) 1544 edges i 0 (ready .edges) node p other m inside
+  seek-edges p other inside = seek-chain (nodeAt (x .nodes) 1544) edges i 0 (ready .edges) node p other m inside
 
   seek-properties : (p : ℕ → Bool) → ((k : ℕ) → eqb (wideAt (x .properties) 8 k 2) node ≡ false → p k ≡ false)
       → ((j : ℕ) → j < m → j < properties) → Seeking p m (nextIn i 1536 properties) (headIn i 1536 properties node)
-  seek-properties p other inside = seek-chain (x .properties) 8 properties i 1536 (ready .properties) node p other m inside
+  seek-properties p other inside = seek-chain (nodeAt (x .properties) 8) properties i 1536 (ready .properties) node p other m inside
 
   -- the chain by the line's letter, as the code chooses it
   abbrev head : Bool → ℕ

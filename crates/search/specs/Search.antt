@@ -15,11 +15,12 @@ use Rattle.rules.specs.Graph.{Graph, check21, check22, check23, check24, check2
 use Rattle.rules.specs.Query.{check31}
 use Rattle.rules.proofs.Clean.{Each}
 use Rattle.text.specs.declared.Row.{Row as Read}
-use Rattle.tables.specs.Layout.{belongs, schemaArea, nodeArea, propertyArea, valueArea}
+use Rattle.tables.specs.Layout.{belongs, nodeArea, propertyArea, valueArea}
+use Rattle.index.specs.Buckets.{schemaArea}
 use Rattle.tables.specs.Fill.{lettered, valuesIn, SchemaFits, GraphFits}
 use Rattle.tables.specs.Read.{cell, schemaAt, graphAt, pairAt, valuesAt}
 use Rattle.tables.proofs.Graphs.{Formed}
-use Rattle.index.specs.Index.{ledTo, Linked}
+use Rattle.index.specs.Index.{headIn, nextIn, Linked}
 use Rattle.schema.specs.Held.{SchemaHeld}
 use Rattle.schema.specs.Faults.{fault12, fault14, fault15}
 use Rattle.graph.specs.Held.{NodesHeld, PropertiesHeld}
@@ -128,13 +129,6 @@ clash n x r j =
 unfoldable pub indexed : ℕ → Bool
 indexed n = eqb n 25 || eqb n 26
 
--- by the links of a table of n rows, which stand from `base` on: the first row of node u, and the next one of the node of row j
-unfoldable pub headIn : List ℕ → ℕ → ℕ → ℕ → ℕ
-headIn x base n u = cond (ltb u 512) (ledTo n (cell x (base + u))) n
-
-unfoldable pub nextIn : List ℕ → ℕ → ℕ → ℕ → ℕ
-nextIn x base n j = ledTo n (cell x (base + 512 + j))
-
 -- The earlier line that a line is held against first, and the one behind the j-th: along the chain of the line's node, or all in turn.
 unfoldable pub headOf : ℕ → List ℕ → List ℕ → List ℕ → Read → ℕ
 headOf n g p x r =
@@ -149,7 +143,7 @@ stepOf n g p x r j =
 
 -- the schema of the text's own rows (checks 12 to 15)
 pub record SchemaReady (rs : List Row) (x : Areas) : Type 0 where
-  pub long : 9992 ≤ length (x .schema)
+  pub long : 14600 ≤ length (x .schema)
   pub fits : SchemaFits rs
   pub held : x .schema ≡ schemaArea (length (x .schema)) rs
 

@@ -8,7 +8,7 @@ use lib.ListN.{length, set, replicate, length-replicate, length-set}
 use borrow.Author.Tests.{le-leb, lt-leb}
 use Rattle.rules.specs.Lists.{those, keepIf}
 use Rattle.rules.specs.Text.{Row}
-use Rattle.tables.specs.Layout.{laid, belongs, table, counted, allValues, schemaHead, schemaArea, nodeArea, propertyArea, valueArea, queryArea}
+use Rattle.tables.specs.Layout.{laid, belongs, table, counted, allValues, schemaHead, schemaTables, nodeArea, propertyArea, valueArea, queryArea}
 use Rattle.tables.specs.Fill.{queriesIn, SchemaFits, GraphFits}
 use Rattle.tables.specs.declared.Queries.{Queries}
 use Rattle.tables.proofs.Laid.{laid-length}
@@ -148,8 +148,8 @@ pub schema-laid : (rs : List Row) (n : ℕ) (a₀ a₁ a₂ a₃ : List ℕ) (v�
     → a₂ ≡ laid 6920 (table 6 0 rs) (laid 3848 (table 5 0 rs) (laid 776 (table 4 0 rs) a₁))
     → a₃ ≡ laid 0 (v₁ ∷ v₂ ∷ v₃ ∷ v₄ ∷ v₅ ∷ v₆ ∷ q .count ∷ q .first ∷ []) a₂
     → v₁ ≡ counted 1 rs → v₂ ≡ counted 2 rs → v₃ ≡ counted 3 rs → v₄ ≡ counted 4 rs → v₅ ≡ counted 5 rs → v₆ ≡ counted 6 rs
-    → q ≡ queriesIn rs → a₃ ≡ schemaArea n rs
-unfolding schemaArea schemaHead queriesIn
+    → q ≡ queriesIn rs → a₃ ≡ schemaTables n rs
+unfolding schemaTables schemaHead queriesIn
 schema-laid rs n a₀ a₁ a₂ a₃ v₁ v₂ v₃ v₄ v₅ v₆ q e₀ e₁ e₂ e₃ p₁ p₂ p₃ p₄ p₅ p₆ p₇ =
     e₃
     ∙ ap (λ (x : Queries). laid 0 (v₁ ∷ v₂ ∷ v₃ ∷ v₄ ∷ v₅ ∷ v₆ ∷ x .count ∷ x .first ∷ []) a₂) p₇

@@ -11,7 +11,7 @@ pub mod Valuing
 pub mod Together
 pub mod Laying
 pub mod Narrow
-pub mod Views
+pub mod Schemas
 pub mod Wide
 pub mod Labelling
 pub mod Areas

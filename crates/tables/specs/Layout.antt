@@ -77,8 +77,8 @@ schemaHead rs =
     ∷ at (nth (is Q) rs 0) 0
     ∷ []
 
-unfoldable pub schemaArea : ℕ → List Row → List ℕ
-schemaArea n rs =
+unfoldable pub schemaTables : ℕ → List Row → List ℕ
+schemaTables n rs =
     laid 0 (schemaHead rs)
     (laid 6920 (table 6 0 rs)
     (laid 3848 (table 5 0 rs)

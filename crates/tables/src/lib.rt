@@ -7,7 +7,7 @@ ghost use Rattle.rules.specs.Text.{rows, row, lines};
 ghost use Rattle.rules.specs.Schema.{isType};
 ghost use Rattle.rules.proofs.Clean.{Each};
 ghost use Rattle.text.specs.Line.{lineAt, rowAt};
-ghost use Rattle.tables.specs.Layout.{laid, belongs, width, table, counted, allValues, schemaArea, nodeArea, propertyArea, valueArea, queryArea};
+ghost use Rattle.tables.specs.Layout.{laid, belongs, width, table, counted, allValues, schemaTables, nodeArea, propertyArea, valueArea, queryArea};
 ghost use Rattle.tables.specs.Read.{cell};
 ghost use Rattle.tables.specs.Fill.{Plain, lettered, cellsOf, rowIn, space, valuesIn, ownValues, countsOf, queriesIn, SchemaFits, GraphFits};
 
@@ -343,13 +343,13 @@ fn put_head(area: &mut [u32], x: Three, y: Three, q: Queries)
     area[7] = q.first;
 }
 
-// Lays an accepted schema out.
+// Lays the tables of an accepted schema out.
 pub fn lay_schema(s: &[u8], area: &mut [u32])
     requires { ⌜ length (now s) ≤ 65535 ⌝ }
     requires { ⌜ Each Plain (lines (now s)) ⌝ }
     requires { ⌜ SchemaFits (rows (now s)) ⌝ }
     requires { ⌜ 9992 ≤ length (now area) ⌝ }
-    ensures { λ _. ⌜ now (area .exit) ≡ schemaArea (length (now (area .entry))) (rows (now (s .entry))) ⌝ }
+    ensures { λ _. ⌜ now (area .exit) ≡ schemaTables (length (now (area .entry))) (rows (now (s .entry))) ⌝ }
 {
     clear(area);
     let things = fill_three(1, s, area, 8, 200, 584);

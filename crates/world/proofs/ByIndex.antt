@@ -15,7 +15,7 @@ use Rattle.rules.specs.Eval.{eval}
 use Rattle.rules.specs.Sizing.{visits, start, total}
 use Rattle.tables.proofs.Those.{those-those}
 use Rattle.tables.specs.Read.{cell, wideAt, labelAt, startsAt, targetsAt, foundAt, graphAt}
-use Rattle.index.specs.Index.{ledTo, ownFrom, chain, Linked}
+use Rattle.index.specs.Index.{ledTo, nodeAt, ownFrom, chain, Linked}
 use Rattle.index.proofs.Links.{first-in, first-out, own-skip}
 use Rattle.index.proofs.Chains.{first-own, chain-own}
 use Rattle.world.specs.World.{worldAt}
@@ -37,11 +37,11 @@ module _ (a : List ℕ) (base n : ℕ) (x : List ℕ) (at : ℕ) (linked : Linke
   own-none : 512 ≤ u → those own (countUp 0 n) ≡ []
   own-none h =
       let z : n ≡ n - 0 = omega arith in
-      let r : n ≡ ownFrom a base n u 0 = first-own a base n x at linked u n (first-out x at n u h) in
-      let y : n - ownFrom a base n u 0 ≡ 0 = omega (arith, r) in
+      let r : n ≡ ownFrom (nodeAt a base) n u 0 = first-own (nodeAt a base) n x at linked u n (first-out x at n u h) in
+      let y : n - ownFrom (nodeAt a base) n u 0 ≡ 0 = omega (arith, r) in
       ap (λ (k : ℕ). those own (countUp 0 k)) z
-      ∙ own-skip a base n u 0 own (λ i t. eqb-true (wideAt a base i 2) u t)
-      ∙ ap (λ (k : ℕ). those own (countUp (ownFrom a base n u 0) k)) y
+      ∙ own-skip (nodeAt a base) n u 0 own (λ i t. eqb-true (wideAt a base i 2) u t)
+      ∙ ap (λ (k : ℕ). those own (countUp (ownFrom (nodeAt a base) n u 0) k)) y
 
   -- A node's chain has the node's rows, in their order; of a number that is no node's there are none.
   pub chain-rows : chainOf x at n u ≡ those own (countUp 0 n)
@@ -49,7 +49,7 @@ module _ (a : List ℕ) (base n : ℕ) (x : List ℕ) (at : ℕ) (linked : Linke
   chain-rows = go (decLt u 512)
     where
       go : Dec (u < 512) → chain x at n n (cond (ltb u 512) (ledTo n (cell x (at + u))) n) ≡ those own (countUp 0 n)
-      go (yes d) = ap (chain x at n n) (sym (first-in x at n u (ledTo n (cell x (at + u))) d refl)) ∙ chain-own a base n x at linked u d
+      go (yes d) = ap (chain x at n n) (sym (first-in x at n u (ledTo n (cell x (at + u))) d refl)) ∙ chain-own (nodeAt a base) n x at linked u d
       go (no d) = ap (chain x at n n) (sym (first-out x at n u (omega arith))) ∙ chain-end n ∙ sym (own-none (omega arith))
 
   pub rows-same : (l : Label) → rowsBy a base n x at u l ≡ those (startsAt a base u l) (countUp 0 n)

@@ -20,7 +20,7 @@ use Rattle.rules.proofs.Size.{Closed}
 use Rattle.rules.specs.declared.FieldNo.{FieldNo}
 use Rattle.rules.specs.declared.TypeNo.{TypeNo}
 use Rattle.tables.specs.Read.{cell, wideAt, startsAt, labelAt, targetsAt, foundAt, graphAt}
-use Rattle.index.specs.Index.{ledTo, ownFrom, Linked}
+use Rattle.index.specs.Index.{ledTo, nodeAt, ownFrom, Linked}
 use Rattle.index.proofs.Firsts.{first-past, first-passes}
 use Rattle.index.proofs.Links.{own-skip}
 use Rattle.index.proofs.Chains.{first-own, next-own}
@@ -140,10 +140,10 @@ module _ (a : List ℕ) (base n u : ℕ) (l : Label) where
       eqb-true (wideAt a base r 2) u
       (and-true-left (eqb (wideAt a base r 2) u) (sameLabel (labelAt a base r) l) (first-passes (startsAt a base u l) n (n - j) j refl h))
 
-  pub rows-skip : (j : ℕ) → rowFrom a base n u l j ≡ rowFrom a base n u l (ownFrom a base n u j)
+  pub rows-skip : (j : ℕ) → rowFrom a base n u l j ≡ rowFrom a base n u l (ownFrom (nodeAt a base) n u j)
   unfolding rowFrom rowsFrom startsAt
   rows-skip j =
-      ap (λ (js : List ℕ). getD js 0 n) (own-skip a base n u j (startsAt a base u l)
+      ap (λ (js : List ℕ). getD js 0 n) (own-skip (nodeAt a base) n u j (startsAt a base u l)
       (λ i t. eqb-true (wideAt a base i 2) u (and-true-left (eqb (wideAt a base i 2) u) (sameLabel (labelAt a base i) l) t)))
 
 -- ---- along a chain: entered at its head, and behind row j of it
@@ -152,12 +152,12 @@ module _ (a : List ℕ) (base n : ℕ) (x : List ℕ) (at : ℕ) (linked : Linke
   pub head-rows : (r : ℕ) → r ≡ cond (ltb u 512) (ledTo n (cell x (at + u))) n → (l : Label) (e : ℕ) → e ≡ rowFrom a base n u l r
       → e ≡ rowFrom a base n u l 0
   head-rows r is l e f =
-      f ∙ ap (rowFrom a base n u l) (first-own a base n x at linked u r is) ∙ sym (rows-skip a base n u l 0)
+      f ∙ ap (rowFrom a base n u l) (first-own (nodeAt a base) n x at linked u r is) ∙ sym (rows-skip a base n u l 0)
 
   pub next-rows : (j : ℕ) → j < n → wideAt a base j 2 ≡ u → (r : ℕ) → r ≡ ledTo n (cell x (at + 512 + j)) → (l : Label)
       → rowFrom a base n u l (j + 1) ≡ rowFrom a base n u l r
   next-rows j inside node r is l =
-      rows-skip a base n u l (j + 1) ∙ ap (rowFrom a base n u l) (sym (next-own a base n x at linked u j inside node r is))
+      rows-skip a base n u l (j + 1) ∙ ap (rowFrom a base n u l) (sym (next-own (nodeAt a base) n x at linked u j inside node r is))
 
 -- ---- the targets, edge by edge: e is the first matching edge from edge j on
 

@@ -4,7 +4,7 @@ ghost use Prim.Native.Nat.{_+_, _*_, _-_, _≤_, _<_};
 ghost use lib.ListN.{length, getD};
 ghost use lib.Dec.{eqb};
 ghost use Rattle.tables.specs.Read.{cell, wideAt, startsAt, valuesAt};
-ghost use Rattle.index.specs.Index.{Linked, OnChain};
+ghost use Rattle.index.specs.Index.{nodeAt, Linked, OnChain};
 ghost use Rattle.schema.specs.Held.{SchemaHeld};
 ghost use Rattle.graph.specs.Held.{NodesHeld, PropertiesHeld};
 ghost use Rattle.query.specs.Entries.{QueryHeld};
@@ -55,7 +55,7 @@ fn row_along(
     requires { ⌜ Linked (now a) base n (now ix) at ⌝ }
     requires { ⌜ QueryHeld (now q) ⌝ }
     requires { ⌜ k < cell (now q) 0 ⌝ }
-    requires { ⌜ OnChain (now a) base n u i ⌝ }
+    requires { ⌜ OnChain (nodeAt (now a) base) n u i ⌝ }
     ensures { λ r. ⌜ r ≡ rowFrom (now (a .entry)) base n u (askedAt (now (q .entry)) k) i ⌝ }
 {
     let mut j = i;

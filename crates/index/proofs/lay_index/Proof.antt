@@ -22,7 +22,7 @@ shared-slice-read-lay-links c = search needs
 
 cast-lay-links : tie.Need-cast-lay-links
 unfolding cell
-cast-lay-links c = omega (arith, start (c .before .before .before) .pre .0 .few)
+cast-lay-links c = omega (arith, start (c .before .before .before) .pre .0 .nodes .few)
 
 lay-links-requires : tie.Need-lay-links-requires
 unfolding cell
@@ -36,7 +36,7 @@ shared-slice-read-lay-links-2 c = search needs
 
 cast-lay-links-2 : tie.Need-cast-lay-links-2
 unfolding cell
-cast-lay-links-2 c = omega (arith, start (cleared (c .before .before .before)) .pre .1 .0 .few)
+cast-lay-links-2 c = omega (arith, start (cleared (c .before .before .before)) .pre .1 .0 .nodes .few)
 
 lay-links-requires-2 : tie.Need-lay-links-requires-2
 unfolding cell

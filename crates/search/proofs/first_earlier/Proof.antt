@@ -3,7 +3,8 @@ use native.Mathlib.Omega.{arith}
 use mathlib.Core.Path.{_∙_}
 use borrow.Author.Needs.{needs}
 use Rattle.tables.specs.Read.{cell}
-use Rattle.search.specs.Search.{headIn, Indexed}
+use Rattle.index.specs.Index.{headIn}
+use Rattle.search.specs.Search.{Indexed}
 use Rattle.search.proofs.Dispatch.{head-edges, head-properties, head-first, index-asked}
 use Rattle.search.proofs.first_earlier.Statement.{statement}
 use Rattle.search.proofs.first_earlier.Tie as tie
@@ -20,7 +21,7 @@ reads-edges c = omega (arith, linked (c .before .before .before) .nodesLong)
 
 fits-edges : tie.Need-cast-first-row
 unfolding cell
-fits-edges c = omega (arith, linked (c .before .before .before) .edges .few)
+fits-edges c = omega (arith, linked (c .before .before .before) .edges .keyed .few)
 
 reads-node : tie.Need-array-read-first-row
 reads-node c = search needs
@@ -43,7 +44,7 @@ reads-properties c = omega (arith, linked (c .before .before .before) .propertie
 
 fits-properties : tie.Need-cast-first-row-2
 unfolding cell
-fits-properties c = omega (arith, linked (c .before .before .before) .properties .few)
+fits-properties c = omega (arith, linked (c .before .before .before) .properties .keyed .few)
 
 reads-node-again : tie.Need-array-read-first-row-2
 reads-node-again c = search needs

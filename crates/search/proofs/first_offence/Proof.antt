@@ -11,7 +11,7 @@ use Rattle.rules.specs.declared.Fault.the-variants.{Fine}
 use Rattle.schema.proofs.Searching.{left-found, left-ended}
 use Rattle.search.specs.Search.{Areas, areas, alone, Testable, Clashable, Stepping}
 use Rattle.search.proofs.Looping.{Going, going-start, going-ended, found-alone, found-clash, going-on, next-further}
-use Rattle.search.proofs.Chained.{seek-on, seek-less}
+use Rattle.schema.proofs.Following.{seek-on, seek-less}
 use Rattle.search.proofs.Walking.{SeekingAt, seek-start, earlier-few}
 use Rattle.search.proofs.Asking.{searched, testable, stepping}
 use Rattle.search.proofs.Plainly.{values-most}

@@ -3,7 +3,8 @@ use native.Mathlib.Omega.{arith}
 use mathlib.Core.Path.{_∙_}
 use borrow.Author.Needs.{needs}
 use Rattle.tables.specs.Read.{cell}
-use Rattle.search.specs.Search.{nextIn, Indexed}
+use Rattle.index.specs.Index.{nextIn}
+use Rattle.search.specs.Search.{Indexed}
 use Rattle.search.proofs.Dispatch.{step-edges, step-properties, step-one, index-asked}
 use Rattle.search.proofs.next_earlier.Statement.{statement}
 use Rattle.search.proofs.next_earlier.Tie as tie
@@ -20,7 +21,7 @@ reads-edges c = omega (arith, linked (c .before .before .before) .nodesLong)
 
 fits-edges : tie.Need-cast-next-row
 unfolding cell
-fits-edges c = omega (arith, linked (c .before .before .before) .edges .few)
+fits-edges c = omega (arith, linked (c .before .before .before) .edges .keyed .few)
 
 asks-edges : tie.Need-next-row-requires
 asks-edges c κs = let ready = linked (c .before .before .before) in (ready .edges .long, (ready .edges .low, start (c .before .before .before .before) .pre .1))
@@ -40,7 +41,7 @@ reads-properties c = omega (arith, linked (c .before .before .before) .propertie
 
 fits-properties : tie.Need-cast-next-row-2
 unfolding cell
-fits-properties c = omega (arith, linked (c .before .before .before) .properties .few)
+fits-properties c = omega (arith, linked (c .before .before .before) .properties .keyed .few)
 
 asks-properties : tie.Need-next-row-requires-2
 asks-properties c κs = let ready = linked (c .before .before .before) in (ready .properties .long, (ready .properties .low, start (c .before .before .before .before) .pre .1))

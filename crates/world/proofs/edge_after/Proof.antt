@@ -29,7 +29,7 @@ row-along-requires c κs =
     let e = p .0 in
     let o = p .1 .1 .1 in (
       nodes-table _ (e .nodes),
-      (e .links, (p .1 .0, (p .1 .1 .0, next-on _ _ _ _ _ (e .links) _ _ (o .0) (o .1) _ (c .next-row .ensures)))),
+      (e .links, (p .1 .0, (p .1 .1 .0, next-on _ _ _ _ (e .links) _ _ (o .0) (o .1) _ (c .next-row .ensures)))),
     )
 
 returns : tie.Need-returns

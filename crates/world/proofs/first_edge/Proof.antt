@@ -26,7 +26,7 @@ unfolding cell
 row-along-requires c κs =
     let p = start c .pre in
     let e = p .0 in
-    (nodes-table _ (e .nodes), (e .links, (p .1 .0, (p .1 .1, head-on _ _ _ _ _ (e .links) _ _ (c .first-row .ensures)))))
+    (nodes-table _ (e .nodes), (e .links, (p .1 .0, (p .1 .1, head-on _ _ _ _ (e .links) _ _ (c .first-row .ensures)))))
 
 returns : tie.Need-returns
 unfolding edgeFrom cell

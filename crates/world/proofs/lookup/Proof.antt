@@ -27,7 +27,7 @@ row-along-requires : tie.Need-row-along-requires
 unfolding cell
 row-along-requires c κs =
     let p = start c .pre in
-    (p .0, (p .1 .0, (p .1 .1 .0, (p .1 .1 .1, head-on _ _ _ _ _ (p .1 .0) _ _ (c .first-row .ensures)))))
+    (p .0, (p .1 .0, (p .1 .1 .0, (p .1 .1 .1, head-on _ _ _ _ (p .1 .0) _ _ (c .first-row .ensures)))))
 
 -- what the walk found is the first of all rows
 found : (c : tie.After-row-along)

@@ -3,7 +3,7 @@
 use Prim.Native.Nat.{_-_}
 use native.Mathlib.Omega.{arith}
 use mathlib.Core.Path.{_≡_, refl}
-use Rattle.index.specs.Index.{OnChain}
+use Rattle.index.specs.Index.{nodeAt, OnChain}
 use Rattle.index.proofs.Chains.{next-on, next-less}
 use Rattle.world.specs.World.{askedAt, rowFrom}
 use Rattle.world.proofs.Reading.{from-hit, from-on, from-end}
@@ -12,7 +12,7 @@ use Rattle.world.proofs.row_along.Tie as tie
 
 abbrev Inv-loop : tie.InvT-loop
 Inv-loop a base n x at q k u i j₀ j =
-    (rowFrom a base n u (askedAt q k) i ≡ rowFrom a base n u (askedAt q k) j) × OnChain a base n u j
+    (rowFrom a base n u (askedAt q k) i ≡ rowFrom a base n u (askedAt q k) j) × OnChain (nodeAt a base) n u j
 
 abbrev μ-loop : tie.MeasureT-loop
 μ-loop a base n x at q k u i j₀ j = n - j
@@ -36,12 +36,12 @@ returns c =
 next-row-requires : tie.Need-next-row-requires Inv-loop μ-loop
 next-row-requires c κs =
     let k = start (c .before .before .before) .pre .1 .0 in
-    (omega (arith, k .long), (omega (arith, k .low), omega (arith, k .few)))
+    (omega (arith, k .long), (omega (arith, k .low), omega (arith, k .keyed .few)))
 
 loop-less : tie.Need-loop-less Inv-loop μ-loop
 loop-less c =
     let l = c .before .before .before in
-    next-less _ _ _ _ _ (start (l .before) .pre .1 .0) _ _ (l .loop-test .taken) (l .before .loop .inv .1 .node (l .loop-test .taken)) _
+    next-less _ _ _ _ (start (l .before) .pre .1 .0) _ _ (l .loop-test .taken) (l .before .loop .inv .1 .own (l .loop-test .taken)) _
     (c .next-row .ensures)
 
 loop-again : tie.Need-loop-again Inv-loop μ-loop
@@ -50,8 +50,8 @@ loop-again c =
     let v = l .before .loop .inv in
     let t = l .loop-test .taken in
     let k = start (l .before) .pre .1 .0 in (
-      from-on _ _ _ _ _ _ _ (v .0) _ _ _ _ k t (c .before .before .matches .ensures) (c .before .if1 .left) (v .1 .node t) (c .next-row .ensures),
-      next-on _ _ _ _ _ k _ _ t (v .1 .node t) _ (c .next-row .ensures),
+      from-on _ _ _ _ _ _ _ (v .0) _ _ _ _ k t (c .before .before .matches .ensures) (c .before .if1 .left) (v .1 .own t) (c .next-row .ensures),
+      next-on _ _ _ _ k _ _ t (v .1 .own t) _ (c .next-row .ensures),
     )
 
 returns-2 : tie.Need-returns-2 Inv-loop μ-loop

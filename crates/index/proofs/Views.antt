@@ -5,146 +5,35 @@ use mathlib.Core.Path.{_≡_, refl, sym, ap, _∙_, fun-ext}
 use mathlib.Core.Bool.{Bool, true, false}
 use mathlib.Core.List.{List, [], _∷_, _++_, map, append-nil}
 use lib.Dec.{ltb}
-use lib.ListN.{length, getD, replicate, length-replicate, List·getD-eq-default}
+use lib.ListN.{length, getD, List·getD-eq-default}
 use borrow.Author.Tests.{ltb-true, ltb-false}
 use Rattle.rules.specs.Lists.{those, any}
 use Rattle.rules.specs.Text.{Row, noRow, at, A, F, G, H, M, fieldNo, typeNo}
 use Rattle.rules.specs.Schema.{schemaOf, is, nth, states, begins}
 use Rattle.tables.specs.Fill.{SchemaFits}
-use Rattle.tables.specs.Layout.{laid, narrow, belongs, table, counted, schemaHead, schemaArea}
+use Rattle.tables.specs.Layout.{narrow, belongs, counted, schemaHead}
 use Rattle.tables.specs.Read.{cell, narrowAt, pairIn, firstIn, secondsIn, schemaAt}
-use Rattle.tables.proofs.Laid.{laid-length, laid-in, laid-before, laid-behind}
 use Rattle.tables.proofs.Those.{those-pass}
-use Rattle.tables.proofs.Narrow.{Stands, narrow-length, narrow-at, pairs-in, firsts-in, seconds-in}
+use Rattle.tables.proofs.Narrow.{Stands, narrow-at, pairs-in, firsts-in, seconds-in}
+use Rattle.tables.proofs.Schemas.{SchemaTable, type-table, field-table, arg-table, has-table, takes-table, member-table}
+use Rattle.tables.proofs.Schemas.{tables-head, tabled-stands, tabled-count}
+use Rattle.index.specs.Buckets.{schemaArea}
+use Rattle.index.proofs.Buckets.{schema-tabled}
 
--- ---- the tables of the area: their numbers, where their counts stand, and where their rows begin
+-- ---- the tables: the links laid behind them do not reach them
 
-pub data SchemaTable : ℕ → ℕ → ℕ → Type 0 where
-  type-table : SchemaTable 1 0 8
-  field-table : SchemaTable 2 1 200
-  arg-table : SchemaTable 3 2 584
-  has-table : SchemaTable 4 3 776
-  takes-table : SchemaTable 5 4 3848
-  member-table : SchemaTable 6 5 6920
-
--- the area before each table is laid, and before the head is
-abbrev over1 : ℕ → List Row → List ℕ
-over1 n rs = laid 8 (table 1 0 rs) (replicate n 0)
-
-abbrev over2 : ℕ → List Row → List ℕ
-over2 n rs = laid 200 (table 2 0 rs) (over1 n rs)
-
-abbrev over3 : ℕ → List Row → List ℕ
-over3 n rs = laid 584 (table 3 0 rs) (over2 n rs)
-
-abbrev over4 : ℕ → List Row → List ℕ
-over4 n rs = laid 776 (table 4 0 rs) (over3 n rs)
-
-abbrev over5 : ℕ → List Row → List ℕ
-over5 n rs = laid 3848 (table 5 0 rs) (over4 n rs)
-
-abbrev over6 : ℕ → List Row → List ℕ
-over6 n rs = laid 6920 (table 6 0 rs) (over5 n rs)
-
-module _ (n : ℕ) (rs : List Row) (room : 9992 ≤ n) (fits : SchemaFits rs) where
-  length0 : length {A = ℕ} (replicate n 0) ≡ n
-  length0 = length-replicate n 0
-
-  length1 : length (over1 n rs) ≡ n
-  length1 = laid-length 8 (table 1 0 rs) (replicate n 0) (omega (arith, narrow-length 1 rs refl, length0, fits .types)) ∙ length0
-
-  length2 : length (over2 n rs) ≡ n
-  length2 = laid-length 200 (table 2 0 rs) (over1 n rs) (omega (arith, narrow-length 2 rs refl, length1, fits .fields)) ∙ length1
-
-  length3 : length (over3 n rs) ≡ n
-  length3 = laid-length 584 (table 3 0 rs) (over2 n rs) (omega (arith, narrow-length 3 rs refl, length2, fits .args)) ∙ length2
-
-  length4 : length (over4 n rs) ≡ n
-  length4 = laid-length 776 (table 4 0 rs) (over3 n rs) (omega (arith, narrow-length 4 rs refl, length3, fits .has)) ∙ length3
-
-  length5 : length (over5 n rs) ≡ n
-  length5 = laid-length 3848 (table 5 0 rs) (over4 n rs) (omega (arith, narrow-length 5 rs refl, length4, fits .takes)) ∙ length4
-
-  length6 : length (over6 n rs) ≡ n
-  length6 = laid-length 6920 (table 6 0 rs) (over5 n rs) (omega (arith, narrow-length 6 rs refl, length5, fits .members)) ∙ length5
-
+module _ (n : ℕ) (rs : List Row) (room : 14600 ≤ n) (fits : SchemaFits rs) where
   pub schema-length : length (schemaArea n rs) ≡ n
-  unfolding schemaArea schemaHead
-  schema-length = laid-length 0 (schemaHead rs) (over6 n rs) (omega (arith, length6)) ∙ length6
-
-  -- ---- the head
+  schema-length = schema-tabled n rs room fits .same
 
   pub schema-head : (i : ℕ) → i < 8 → cell (schemaArea n rs) i ≡ getD (schemaHead rs) i 0
-  unfolding cell schemaArea schemaHead
-  schema-head i h = ap (cell (schemaArea n rs)) (omega arith) ∙ laid-in 0 (schemaHead rs) (over6 n rs) i (omega arith) h
-
-  -- ---- the tables: what is laid over a table's area does not reach it
-
-  under7 : (i : ℕ) → 8 ≤ i → cell (schemaArea n rs) i ≡ getD (over6 n rs) i 0
-  unfolding cell schemaArea schemaHead
-  under7 i h = laid-behind 0 (schemaHead rs) (over6 n rs) i (omega arith) (omega arith)
-
-  under6 : (i : ℕ) → 8 ≤ i → i < 6920 → cell (schemaArea n rs) i ≡ getD (over5 n rs) i 0
-  under6 i h k = under7 i h ∙ laid-before 6920 (table 6 0 rs) (over5 n rs) i (omega (arith, length5)) k
-
-  under5 : (i : ℕ) → 8 ≤ i → i < 3848 → cell (schemaArea n rs) i ≡ getD (over4 n rs) i 0
-  under5 i h k = under6 i h (omega arith) ∙ laid-before 3848 (table 5 0 rs) (over4 n rs) i (omega (arith, length4)) k
-
-  under4 : (i : ℕ) → 8 ≤ i → i < 776 → cell (schemaArea n rs) i ≡ getD (over3 n rs) i 0
-  under4 i h k = under5 i h (omega arith) ∙ laid-before 776 (table 4 0 rs) (over3 n rs) i (omega (arith, length3)) k
-
-  under3 : (i : ℕ) → 8 ≤ i → i < 584 → cell (schemaArea n rs) i ≡ getD (over2 n rs) i 0
-  under3 i h k = under4 i h (omega arith) ∙ laid-before 584 (table 3 0 rs) (over2 n rs) i (omega (arith, length2)) k
-
-  under2 : (i : ℕ) → 8 ≤ i → i < 200 → cell (schemaArea n rs) i ≡ getD (over1 n rs) i 0
-  under2 i h k = under3 i h (omega arith) ∙ laid-before 200 (table 2 0 rs) (over1 n rs) i (omega (arith, length1)) k
+  schema-head i h = (schema-tabled n rs room fits .tables) i (omega arith) ∙ tables-head n rs (omega arith) fits i h
 
   pub schema-stands : {k head base : ℕ} → SchemaTable k head base → Stands (schemaArea n rs) k base rs
-  schema-stands type-table =
-      record {
-        small = refl;
-        same = λ i h. under2 (8 + i) (omega arith) (omega (arith, fits .types))
-            ∙ laid-in 8 (table 1 0 rs) (replicate n 0) i (omega (arith, length0)) (omega (arith, narrow-length 1 rs refl));
-      }
-  schema-stands field-table =
-      record {
-        small = refl;
-        same = λ i h. under3 (200 + i) (omega arith) (omega (arith, fits .fields))
-            ∙ laid-in 200 (table 2 0 rs) (over1 n rs) i (omega (arith, length1)) (omega (arith, narrow-length 2 rs refl));
-      }
-  schema-stands arg-table =
-      record {
-        small = refl;
-        same = λ i h. under4 (584 + i) (omega arith) (omega (arith, fits .args))
-            ∙ laid-in 584 (table 3 0 rs) (over2 n rs) i (omega (arith, length2)) (omega (arith, narrow-length 3 rs refl));
-      }
-  schema-stands has-table =
-      record {
-        small = refl;
-        same = λ i h. under5 (776 + i) (omega arith) (omega (arith, fits .has))
-            ∙ laid-in 776 (table 4 0 rs) (over3 n rs) i (omega (arith, length3)) (omega (arith, narrow-length 4 rs refl));
-      }
-  schema-stands takes-table =
-      record {
-        small = refl;
-        same = λ i h. under6 (3848 + i) (omega arith) (omega (arith, fits .takes))
-            ∙ laid-in 3848 (table 5 0 rs) (over4 n rs) i (omega (arith, length4)) (omega (arith, narrow-length 5 rs refl));
-      }
-  schema-stands member-table =
-      record {
-        small = refl;
-        same = λ i h. under7 (6920 + i) (omega arith)
-            ∙ laid-in 6920 (table 6 0 rs) (over5 n rs) i (omega (arith, length5)) (omega (arith, narrow-length 6 rs refl));
-      }
+  schema-stands = tabled-stands n rs (omega arith) fits (schemaArea n rs) (schema-tabled n rs room fits .tables)
 
   pub schema-count : {k head base : ℕ} → SchemaTable k head base → cell (schemaArea n rs) head ≡ counted k rs
-  unfolding schemaHead
-  schema-count type-table = schema-head 0 (omega arith)
-  schema-count field-table = schema-head 1 (omega arith)
-  schema-count arg-table = schema-head 2 (omega arith)
-  schema-count has-table = schema-head 3 (omega arith)
-  schema-count takes-table = schema-head 4 (omega arith)
-  schema-count member-table = schema-head 5 (omega arith)
+  schema-count = tabled-count n rs (omega arith) fits (schemaArea n rs) (schema-tabled n rs room fits .tables)
 
 -- ---- pairs among the first lines
 
@@ -154,7 +43,7 @@ pub data PairTable : ℕ → ℕ → ℕ → Type 0 where
   takes-pairs : PairTable 5 3848 G
   member-pairs : PairTable 6 6920 M
 
-module _ (n : ℕ) (ps rs : List Row) (room : 9992 ≤ n) (fits : SchemaFits (ps ++ rs)) where
+module _ (n : ℕ) (ps rs : List Row) (room : 14600 ≤ n) (fits : SchemaFits (ps ++ rs)) where
   pub pairs-before : {k base letter : ℕ} → PairTable k base letter → (x y : ℕ)
       → pairIn (schemaArea n (ps ++ rs)) base (counted k ps) x y ≡ any (states letter x y) ps
   unfolding belongs
@@ -193,7 +82,7 @@ below-declared p rs c j none e = go (ltb j c) refl
         let far : length (those p rs) ≤ j = omega (arith, ltb-false j c t) in
         t ∙ sym (ap p (List·getD-eq-default (those p rs) noRow far) ∙ none)
 
-module _ (n : ℕ) (rs : List Row) (room : 9992 ≤ n) (fits : SchemaFits rs) where
+module _ (n : ℕ) (rs : List Row) (room : 14600 ≤ n) (fits : SchemaFits rs) where
   a : List ℕ
   a = schemaArea n rs
 

@@ -20,13 +20,15 @@ use Rattle.tables.specs.Layout.{belongs, counted}
 use Rattle.tables.specs.Fill.{whole}
 use Rattle.tables.specs.Read.{cell, schemaAt}
 use Rattle.tables.proofs.Cells.{counted-append}
+use Rattle.tables.proofs.Schemas.{SchemaTable, has-table, takes-table, member-table}
+use Rattle.index.proofs.Views.{schema-count}
 use Rattle.tables.proofs.Areas.{edge-count, property-count}
 use Rattle.schema.specs.Held.{SchemaHeld}
 use Rattle.graph.specs.Faults.{nodesAt}
 use Rattle.graph.specs.Held.{NodesHeld, PropertiesHeld}
 use Rattle.search.specs.declared.Counts.{Counts}
 use Rattle.search.specs.Count.{countsOf, Within}
-use Rattle.search.specs.Search.{Areas, limit, pairBase, pairCount, SearchedFor, plainCheck}
+use Rattle.search.specs.Search.{Areas, limit, pairBase, pairCount, pairRows, SearchedFor, plainCheck}
 use Rattle.search.specs.Search.{SchemaReady, GraphReady, Ready, IndexReady, GraphTestable, Testable, Clashable, Stepping}
 use Rattle.search.proofs.Splitting.{Searched, by-11, by-12, by-13, by-14, by-15, by-21, by-22, by-23, by-24, by-25, by-26, by-31}
 use Rattle.search.proofs.DataSplit.{each-there}
@@ -224,6 +226,35 @@ module _ {n : ℕ} {s : List ℕ} {x : Areas} {here : ℕ} {c : Counts} (g : Goi
           simp (p, q) (omega (arith, l, mc), omega (arith, mc))
       go false false false p q w = let y : j < 0 = simp (p, q, w) at k in absurd (omega arith)
 
+  -- and among the pairs that the area holds
+  pair-among : SchemaReady (rows s) x → (j : ℕ) → j < pairCount c (r .letter) → j < pairRows (x .schema) (r .letter)
+  unfolding countsOf pairCount pairRows
+  pair-among sr j k = go (eqb (r .letter) H) (eqb (r .letter) G) (eqb (r .letter) M) refl refl refl
+    where
+      held : {t head base : ℕ} → SchemaTable t head base → cell (x .schema) head ≡ counted t (rows s)
+      held {head = head} t =
+          ap (λ (l : List ℕ). cell l head) (sr .held) ∙ schema-count (length (x .schema)) (rows s) (sr .long) (sr .fits) t
+
+      go : (a b d : Bool) → eqb (r .letter) H ≡ a → eqb (r .letter) G ≡ b → eqb (r .letter) M ≡ d
+          → j < cell (x .schema) (cond (eqb (r .letter) H) 3 (cond (eqb (r .letter) G) 4 5))
+      go true b d p q w =
+          let y : j < c .has = simp p at k in
+          let n = ap (λ (z : Counts). z .has) (g .counts) in
+          simp p (omega (arith, counted-within 4, held has-table))
+      go false true d p q w =
+          let y : j < c .takes = simp (p, q) at k in
+          let n = ap (λ (z : Counts). z .takes) (g .counts) in
+          simp (p, q) (omega (arith, counted-within 5, held takes-table))
+      go false false true p q w =
+          let y : j < c .members = simp (p, q, w) at k in
+          let n = ap (λ (z : Counts). z .members) (g .counts) in
+          simp (p, q) (omega (arith, counted-within 6, held member-table))
+      go false false false p q w = let y : j < 0 = simp (p, q, w) at k in absurd (omega arith)
+
+  pub paired : n ≡ 13 → (j : ℕ) → j < limit n x c r → j < pairRows (x .schema) (r .letter)
+  unfolding limit Ready plainCheck
+  paired q j k = pair-among ((ready .0) (rw q) (rw q)) j (rw q at k)
+
   -- what a clash with the j-th earlier line asks, check by check
   clash-13 : SchemaReady (rows s) x → (j : ℕ) → j < pairCount c (r .letter) → Clashable 13 x r j
   clash-13 sr j k =
@@ -291,4 +322,11 @@ clashable g h e by-31 ready j k = absurd (omega arith)
 pub stepping : {n : ℕ} {s : List ℕ} {x : Areas} {here : ℕ} {c : Counts} (g : Going n s x here c) → here < length s → {r : Read}
     → r ≡ rowAt s here → Searched n → Ready n (rows s) x → {i : List ℕ} → IndexReady n (x .nodes) (x .properties) i
     → Stepping n x i c r
-stepping g h e searched ready linked = record { clashable = clashable g h e searched ready; ready = linked }
+unfolding plainCheck
+stepping {n} {x = x} g h e searched ready linked =
+    record {
+      clashable = clashable g h e searched ready;
+      paired = paired g h e ready;
+      pairs = record { held = λ q. schema-read n _ x ready (ap plainCheck q) };
+      ready = linked;
+    }

@@ -1,5 +1,5 @@
 -- The check with a number: what its function may ask of a line, and what its answer says. Laws shaped like the needs. Assumes nothing.
-use Prim.Native.Nat.{ℕ, _+_, _*_, _≤_, _<_}
+use Prim.Native.Nat.{ℕ, _+_, _*_, _%_, _≤_, _<_}
 use native.Mathlib.Omega.{arith}
 use mathlib.Core.Path.{_≡_, sym, ap, _∙_}
 use mathlib.Core.Logic.{inl, inr}
@@ -24,6 +24,7 @@ use Rattle.graph.specs.Faults.{nodesAt, fault22, fault23, fault24E, fault24P, d
 use Rattle.search.specs.declared.Counts.{Counts}
 use Rattle.search.specs.Search.{areas, plainCheck, alone, alone11, alone21, alone24, alone31, pairBase, pairCount, limit, clash}
 use Rattle.search.specs.Search.{GraphTestable, Testable, Clashable, indexed, headOf, stepOf, Indexed, IndexReady}
+use Rattle.search.specs.Search.{pairRows, pairLinks, pairFirst, pairNext, firstAsked, nextAsked}
 
 module _ (n : ℕ) (a g p v : List ℕ) (c : Counts) (r : Read) where
   -- ---- a line alone
@@ -235,6 +236,53 @@ module _ (n : ℕ) where
     index-asked ready t = (ready .linked) (sym is ∙ t)
 
 pub ruleset index-laws = (index-25, index-26)
+
+-- ---- along the chain of a pair, by its letter
+
+module _ (a : List ℕ) (l : ℕ) where
+  pub first-has : (x : ℕ) → l ≡ H → headIn a 9992 (cell a 3) (x % 512) ≡ pairFirst a l x
+  unfolding pairFirst pairRows pairLinks
+  first-has x h = rw (eq-eqb l H h)
+
+  pub next-has : (j : ℕ) → l ≡ H → nextIn a 9992 (cell a 3) j ≡ pairNext a l j
+  unfolding pairNext pairRows pairLinks
+  next-has j h = rw (eq-eqb l H h)
+
+  module _ (no : l ≡ H → ⊥) where
+    pub first-takes : (x : ℕ) → l ≡ G → headIn a 11528 (cell a 4) (x % 512) ≡ pairFirst a l x
+    unfolding pairFirst pairRows pairLinks
+    first-takes x g = rw (ne-eqb l H no, eq-eqb l G g)
+
+    pub next-takes : (j : ℕ) → l ≡ G → nextIn a 11528 (cell a 4) j ≡ pairNext a l j
+    unfolding pairNext pairRows pairLinks
+    next-takes j g = rw (ne-eqb l H no, eq-eqb l G g)
+
+    pub first-member : (x : ℕ) → (l ≡ G → ⊥) → headIn a 13064 (cell a 5) (x % 512) ≡ pairFirst a l x
+    unfolding pairFirst pairRows pairLinks
+    first-member x g = rw (ne-eqb l H no, ne-eqb l G g)
+
+    pub next-member : (j : ℕ) → (l ≡ G → ⊥) → nextIn a 13064 (cell a 5) j ≡ pairNext a l j
+    unfolding pairNext pairRows pairLinks
+    next-member j g = rw (ne-eqb l H no, ne-eqb l G g)
+
+-- ---- the one or the other, by the check
+
+module _ (n : ℕ) (a g p x : List ℕ) (r : Read) where
+  pub first-of-pair : (k : ℕ) → n ≡ 13 → k ≡ pairFirst a (r .letter) (getD (r .nums) 0 0) → k ≡ firstAsked n a g p x r
+  unfolding firstAsked
+  first-of-pair k e h = rw (eq-eqb n 13 e) h
+
+  pub first-of-datum : (k : ℕ) → (n ≡ 13 → ⊥) → k ≡ headOf n g p x r → k ≡ firstAsked n a g p x r
+  unfolding firstAsked
+  first-of-datum k e h = rw (ne-eqb n 13 e) h
+
+  pub next-of-pair : (k j : ℕ) → n ≡ 13 → k ≡ pairNext a (r .letter) j → k ≡ nextAsked n a g p x r j
+  unfolding nextAsked
+  next-of-pair k j e h = rw (eq-eqb n 13 e) h
+
+  pub next-of-datum : (k j : ℕ) → (n ≡ 13 → ⊥) → k ≡ stepOf n g p x r j → k ≡ nextAsked n a g p x r j
+  unfolding nextAsked
+  next-of-datum k j e h = rw (ne-eqb n 13 e) h
 
 -- ---- an earlier line
 

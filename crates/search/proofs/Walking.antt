@@ -1,5 +1,5 @@
 -- The search of a check for an earlier line that clashes: where it begins, and that its steps leave no such line out. Assumes nothing.
-use Prim.Native.Nat.{ℕ, _+_, _≤_, _<_}
+use Prim.Native.Nat.{ℕ, _+_, _%_, _≤_, _<_}
 use native.Mathlib.Omega.{arith}
 use native.Mathlib.Decide.{ℕ-discrete}
 use mathlib.Core.Path.{_≡_, refl, sym, ap, _∙_}
@@ -9,20 +9,23 @@ use mathlib.Core.List.{List}
 use lib.Dec.{eqb, ltb}
 use lib.ListN.{getD}
 use borrow.Author.Tests.{eqb-true, eqb-false}
-use Rattle.rules.specs.Text.{E}
+use Rattle.rules.specs.Text.{E, G, H}
 use Rattle.text.specs.declared.Row.{Row as Read}
-use Rattle.tables.specs.Read.{cell, wideAt}
-use Rattle.index.specs.Index.{nodeAt, headIn, nextIn}
+use Rattle.tables.specs.Read.{cell, wideAt, pairAt}
+use Rattle.index.specs.Index.{nodeAt, headIn, nextIn, Chained}
+use Rattle.index.specs.Buckets.{bucketAt}
+use Rattle.schema.specs.Held.{SchemaHeld, Bucketed}
 use Rattle.graph.specs.Faults.{divertsAt, twinEdge, twinProperty}
 use Rattle.search.specs.declared.Counts.{Counts}
 use Rattle.search.specs.Search.{Areas, limit, clash, indexed, headOf, stepOf, Indexed, Clashable, Stepping}
+use Rattle.search.specs.Search.{pairBase, pairRows, pairLinks, pairFirst, pairNext, firstAsked, nextAsked}
 use Rattle.search.proofs.Splitting.{Searched, by-11, by-12, by-13, by-14, by-15, by-21, by-22, by-23, by-24, by-25, by-26, by-31}
-use Rattle.schema.proofs.Following.{Seeking, seek-all, seek-none, seek-chain}
+use Rattle.schema.proofs.Following.{Seeking, seek-all, seek-none, seek-chain, pair-other}
 use Rattle.search.proofs.Chained.{diverts-other, edge-other, property-other}
 
 -- the search of a check has come to the j-th earlier line
 abbrev pub SeekingAt : ℕ → Areas → List ℕ → Read → ℕ → ℕ → Type 0
-SeekingAt n x i r m j = Seeking (clash n x r) m (stepOf n (x .nodes) (x .properties) i r) j
+SeekingAt n x i r m j = Seeking (clash n x r) m (nextAsked n (x .schema) (x .nodes) (x .properties) i r) j
 
 -- an earlier line stands among the 1,024 of its table
 pub earlier-few : (n : ℕ) (x : Areas) (r : Read) (j : ℕ) → Clashable n x r j → j < 1024
@@ -78,27 +81,71 @@ module _ (x : Areas) (i : List ℕ) (c : Counts) (r : Read) (ready : Indexed (x 
       seek-properties (twinProperty (x .properties) (r .nums)) (λ k. property-other (r .nums) k (x .properties))
       (λ j k. (h j k .within) (λ q. omega arith) (λ q. omega arith) (eqb-false (r .letter) E e))
 
+-- ---- 13: along the chain of the line's first number
+
+module _ (a : List ℕ) (held : SchemaHeld a) (u v m : ℕ) where
+  -- the pairs of a letter, of which the first m are asked
+  abbrev Pairs : ℕ → Type 0
+  Pairs l = ((j : ℕ) → j < m → j < pairRows a l) → Seeking (pairAt a (pairBase l) u v) m (pairNext a l) (pairFirst a l u)
+
+  seek-pairs : (base n at : ℕ) → Chained (bucketAt a base) n a at → ((j : ℕ) → j < m → j < n)
+      → Seeking (pairAt a base u v) m (nextIn a at n) (headIn a at n (u % 512))
+  seek-pairs base n at linked inside =
+      seek-chain (bucketAt a base) n a at linked (u % 512) (pairAt a base u v) (λ k. pair-other a base u v k) m inside
+
+  has-links : Chained (bucketAt a 776) (cell a 3) a 9992
+  unfolding Bucketed
+  has-links = held .hasLinks
+
+  takes-links : Chained (bucketAt a 3848) (cell a 4) a 11528
+  unfolding Bucketed
+  takes-links = held .takesLinks
+
+  member-links : Chained (bucketAt a 6920) (cell a 5) a 13064
+  unfolding Bucketed
+  member-links = held .memberLinks
+
+  by-letter-13 : (l : ℕ) → Pairs l
+  unfolding pairBase pairRows pairLinks pairNext pairFirst
+  by-letter-13 l = go (eqb l H) (eqb l G)
+    where
+      go : (b d : Bool) → ((j : ℕ) → j < m → j < cell a (cond b 3 (cond d 4 5)))
+          → Seeking (pairAt a (cond b 776 (cond d 3848 6920)) u v) m
+          (nextIn a (cond b 9992 (cond d 11528 13064)) (cell a (cond b 3 (cond d 4 5))))
+          (headIn a (cond b 9992 (cond d 11528 13064)) (cell a (cond b 3 (cond d 4 5))) (u % 512))
+      go true d inside = seek-pairs 776 (cell a 3) 9992 has-links inside
+      go false true inside = seek-pairs 3848 (cell a 4) 11528 takes-links inside
+      go false false inside = seek-pairs 6920 (cell a 5) 13064 member-links inside
+
 -- ---- every check
 
 module _ (x : Areas) (i : List ℕ) (c : Counts) (r : Read) where
   abbrev Begins : ℕ → Type 0
-  Begins n = Stepping n x i c r → (m : ℕ) → m ≡ limit n x c r → SeekingAt n x i r m (headOf n (x .nodes) (x .properties) i r)
+  Begins n =
+      Stepping n x i c r → (m : ℕ) → m ≡ limit n x c r
+      → SeekingAt n x i r m (firstAsked n (x .schema) (x .nodes) (x .properties) i r)
+
+  begins-13 : Begins 13
+  unfolding clash firstAsked nextAsked
+  begins-13 s m l =
+      by-letter-13 (x .schema) ((s .pairs .held) refl) (getD (r .nums) 0 0) (getD (r .nums) 1 0) m (r .letter)
+      (λ j k. (s .paired) refl j (omega arith))
 
   begins-25 : Begins 25
-  unfolding clash indexed headOf stepOf
+  unfolding clash indexed headOf stepOf firstAsked nextAsked
   begins-25 s m l =
       by-letter-25 x i c r ((s .ready .linked) refl) m (eqb (r .letter) E) refl l (λ j k. (s .clashable) j (omega arith))
 
   begins-26 : Begins 26
-  unfolding clash indexed headOf stepOf
+  unfolding clash indexed headOf stepOf firstAsked nextAsked
   begins-26 s m l = by-letter-26 x i c r ((s .ready .linked) refl) m (eqb (r .letter) E) refl (λ j k. (s .clashable) j (omega arith))
 
-  -- The search begins at the head, and no line before it clashes. But for 25 and 26 all earlier lines are asked in turn.
+  -- The search begins at the head, and no line before it clashes. But for 13, 25 and 26 all earlier lines are asked in turn.
   pub seek-start : {n : ℕ} → Searched n → Begins n
-  unfolding indexed headOf stepOf
+  unfolding indexed headOf stepOf firstAsked nextAsked
   seek-start by-11 s m l = seek-all (clash 11 x r) m
   seek-start by-12 s m l = seek-all (clash 12 x r) m
-  seek-start by-13 s m l = seek-all (clash 13 x r) m
+  seek-start by-13 s m l = begins-13 s m l
   seek-start by-14 s m l = seek-all (clash 14 x r) m
   seek-start by-15 s m l = seek-all (clash 15 x r) m
   seek-start by-21 s m l = seek-all (clash 21 x r) m

@@ -1,5 +1,5 @@
 -- The one search: what a check says of a line alone, and of a line and an earlier one. Assumes nothing.
-use Prim.Native.Nat.{ℕ, _+_, _*_, _≤_, _<_}
+use Prim.Native.Nat.{ℕ, _+_, _*_, _%_, _≤_, _<_}
 use mathlib.Core.Path.{_≡_}
 use mathlib.Core.Logic.{_⊎_}
 use mathlib.Core.List.{List, [], _∷_}
@@ -129,7 +129,8 @@ clash n x r j =
 unfoldable pub indexed : ℕ → Bool
 indexed n = eqb n 25 || eqb n 26
 
--- The earlier line that a line is held against first, and the one behind the j-th: along the chain of the line's node, or all in turn.
+-- Of a line of the graph: the earlier line that it is held against first, and the one behind the j-th, along the chain of the line's node, or
+-- all in turn.
 unfoldable pub headOf : ℕ → List ℕ → List ℕ → List ℕ → Read → ℕ
 headOf n g p x r =
     let u = getD (r .nums) 0 0 in
@@ -138,6 +139,27 @@ headOf n g p x r =
 unfoldable pub stepOf : ℕ → List ℕ → List ℕ → List ℕ → Read → ℕ → ℕ
 stepOf n g p x r j =
     cond (indexed n) (cond (eqb (r .letter) E) (nextIn x 0 (cell g 1) j) (nextIn x 1536 (cell p 0) j)) (j + 1)
+
+-- how many pairs of a letter the schema's area holds, and where their links stand
+unfoldable pub pairRows : List ℕ → ℕ → ℕ
+pairRows a l = cell a (cond (eqb l H) 3 (cond (eqb l G) 4 5))
+
+unfoldable pub pairLinks : ℕ → ℕ
+pairLinks l = cond (eqb l H) 9992 (cond (eqb l G) 11528 13064)
+
+-- Of a pair with the first number x: the earlier pair that it is held against first, and the one behind the j-th, along the chain of x.
+unfoldable pub pairFirst : List ℕ → ℕ → ℕ → ℕ
+pairFirst a l x = headIn a (pairLinks l) (pairRows a l) (x % 512)
+
+unfoldable pub pairNext : List ℕ → ℕ → ℕ → ℕ
+pairNext a l j = nextIn a (pairLinks l) (pairRows a l) j
+
+-- The same of any line, by the check.
+unfoldable pub firstAsked : ℕ → List ℕ → List ℕ → List ℕ → List ℕ → Read → ℕ
+firstAsked n a g p x r = cond (eqb n 13) (pairFirst a (r .letter) (getD (r .nums) 0 0)) (headOf n g p x r)
+
+unfoldable pub nextAsked : ℕ → List ℕ → List ℕ → List ℕ → List ℕ → Read → ℕ → ℕ
+nextAsked n a g p x r j = cond (eqb n 13) (pairNext a (r .letter) j) (stepOf n g p x r j)
 
 -- ---- what the areas must hold before a check
 
@@ -181,6 +203,10 @@ pub record Indexed (g p x : List ℕ) : Type 0 where
 pub record IndexReady (n : ℕ) (g p x : List ℕ) : Type 0 where
   pub linked : indexed n ≡ true → Indexed g p x
 
+-- what a check asks of the schema before it walks the chains of its pairs
+pub record PairsReady (n : ℕ) (a : List ℕ) : Type 0 where
+  pub held : n ≡ 13 → SchemaHeld a
+
 -- ---- what the code asks before it tests a line
 
 unfoldable pub areas : List ℕ → List ℕ → List ℕ → List ℕ → Areas
@@ -219,4 +245,6 @@ pub record Clashable (n : ℕ) (x : Areas) (r : Read) (j : ℕ) : Type 0 where
 -- a line that can be held against the earlier lines that a check asks: those below the limit stand in the areas, in the order of `index`
 pub record Stepping (n : ℕ) (x : Areas) (index : List ℕ) (c : Counts) (r : Read) : Type 0 where
   pub clashable : (j : ℕ) → j < limit n x c r → Clashable n x r j
+  pub paired : n ≡ 13 → (j : ℕ) → j < limit n x c r → j < pairRows (x .schema) (r .letter)
+  pub pairs : PairsReady n (x .schema)
   pub ready : IndexReady n (x .nodes) (x .properties) index

@@ -12,8 +12,9 @@ ghost use Rattle.rules.proofs.Clean.{Each};
 ghost use Rattle.tables.specs.Layout.{belongs};
 ghost use Rattle.tables.specs.Fill.{Plain, lettered};
 ghost use Rattle.tables.specs.Read.{schemaAt};
+ghost use Rattle.schema.specs.Held.{SchemaHeld};
 ghost use Rattle.search.specs.Count.{countsOf, countsWith, Within};
-ghost use Rattle.search.specs.Search.{areas, graphIn, checkBy, alone11, alone21, alone31, alone, limit, clash, indexed, headOf, stepOf, SearchedFor, Ready, IndexReady, Testable, GraphTestable, Clashable};
+ghost use Rattle.search.specs.Search.{areas, graphIn, checkBy, alone11, alone21, alone31, alone, limit, clash, indexed, headOf, stepOf, pairFirst, pairNext, firstAsked, nextAsked, SearchedFor, Ready, PairsReady, IndexReady, Testable, GraphTestable, Clashable};
 use rules::Fault;
 use rules::FieldNo;
 use rules::Spot;
@@ -307,8 +308,8 @@ fn by_index(check: u32) -> bool
     check == 26
 }
 
-// The earlier line that a line is held against first.
-fn first_earlier(check: u32, r: text::Row, g: &[u32], p: &[u32], ix: &[u32]) -> usize
+// The earlier line that a line of the graph is held against first.
+fn first_datum(check: u32, r: text::Row, g: &[u32], p: &[u32], ix: &[u32]) -> usize
     requires { ⌜ length (r .nums) ≡ 12 ⌝ }
     requires { ⌜ IndexReady check (now g) (now p) (now ix) ⌝ }
     ensures { λ j. ⌜ j ≡ headOf check (now (g .entry)) (now (p .entry)) (now (ix .entry)) r ⌝ }
@@ -323,8 +324,8 @@ fn first_earlier(check: u32, r: text::Row, g: &[u32], p: &[u32], ix: &[u32]) -> 
     0
 }
 
-// The earlier line that a line is held against behind the j-th.
-fn next_earlier(check: u32, r: text::Row, g: &[u32], p: &[u32], ix: &[u32], j: usize) -> usize
+// The earlier line that a line of the graph is held against behind the j-th.
+fn next_datum(check: u32, r: text::Row, g: &[u32], p: &[u32], ix: &[u32], j: usize) -> usize
     requires { ⌜ IndexReady check (now g) (now p) (now ix) ⌝ }
     requires { ⌜ j < 1024 ⌝ }
     ensures { λ k. ⌜ k ≡ stepOf check (now (g .entry)) (now (p .entry)) (now (ix .entry)) r j ⌝ }
@@ -336,6 +337,70 @@ fn next_earlier(check: u32, r: text::Row, g: &[u32], p: &[u32], ix: &[u32], j: u
         return index::next_row(ix, 1536, p[0] as usize, j);
     }
     j + 1
+}
+
+// The earlier pair that a pair with this letter and the first number x is held against first.
+fn first_pair(a: &[u32], letter: u8, x: u32) -> usize
+    requires { ⌜ SchemaHeld (now a) ⌝ }
+    ensures { λ j. ⌜ j ≡ pairFirst (now (a .entry)) letter x ⌝ }
+{
+    if letter == b'H' {
+        return index::first_row(a, 9992, a[3] as usize, x % 512);
+    }
+    if letter == b'G' {
+        return index::first_row(a, 11528, a[4] as usize, x % 512);
+    }
+    index::first_row(a, 13064, a[5] as usize, x % 512)
+}
+
+// The earlier pair that a pair with this letter is held against behind the j-th.
+fn next_pair(a: &[u32], letter: u8, j: usize) -> usize
+    requires { ⌜ SchemaHeld (now a) ⌝ }
+    requires { ⌜ j < 1024 ⌝ }
+    ensures { λ k. ⌜ k ≡ pairNext (now (a .entry)) letter j ⌝ }
+{
+    if letter == b'H' {
+        return index::next_row(a, 9992, a[3] as usize, j);
+    }
+    if letter == b'G' {
+        return index::next_row(a, 11528, a[4] as usize, j);
+    }
+    index::next_row(a, 13064, a[5] as usize, j)
+}
+
+// The earlier line that a line is held against first.
+fn first_earlier(check: u32, r: text::Row, a: &[u32], g: &[u32], p: &[u32], ix: &[u32]) -> usize
+    requires { ⌜ length (r .nums) ≡ 12 ⌝ }
+    requires { ⌜ PairsReady check (now a) ⌝ }
+    requires { ⌜ IndexReady check (now g) (now p) (now ix) ⌝ }
+    ensures { λ j. ⌜ j ≡ firstAsked check (now (a .entry)) (now (g .entry)) (now (p .entry)) (now (ix .entry)) r ⌝ }
+{
+    let nums = r.nums;
+    if check == 13 {
+        return first_pair(a, r.letter, nums[0]);
+    }
+    first_datum(check, r, g, p, ix)
+}
+
+// The earlier line that a line is held against behind the j-th.
+fn next_earlier(
+    check: u32,
+    r: text::Row,
+    a: &[u32],
+    g: &[u32],
+    p: &[u32],
+    ix: &[u32],
+    j: usize,
+) -> usize
+    requires { ⌜ PairsReady check (now a) ⌝ }
+    requires { ⌜ IndexReady check (now g) (now p) (now ix) ⌝ }
+    requires { ⌜ j < 1024 ⌝ }
+    ensures { λ k. ⌜ k ≡ nextAsked check (now (a .entry)) (now (g .entry)) (now (p .entry)) (now (ix .entry)) r j ⌝ }
+{
+    if check == 13 {
+        return next_pair(a, r.letter, j);
+    }
+    next_datum(check, r, g, p, ix, j)
 }
 
 // The first line that offends against the check with a number, with the field at fault; line 0 where none does.
@@ -369,7 +434,7 @@ pub fn first_offence(
             break 'lines;
         }
         let end = earlier(check, c, r, a, g, p, v) as usize;
-        let mut j = first_earlier(check, r, g, p, ix);
+        let mut j = first_earlier(check, r, a, g, p, ix);
         while j < end {
             if clashes(check, r, j, a, g, p, v) {
                 found = Spot {
@@ -378,7 +443,7 @@ pub fn first_offence(
                 };
                 break 'lines;
             }
-            j = next_earlier(check, r, g, p, ix, j);
+            j = next_earlier(check, r, a, g, p, ix, j);
         }
         let nums = r.nums;
         c = c.with_row(

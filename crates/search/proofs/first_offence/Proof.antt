@@ -115,7 +115,8 @@ cast-end : tie.Need-cast-end Inv-loop μ-loop Inv-lines μ-lines
 cast-end c = search needs
 
 first-earlier-requires : tie.Need-first-earlier-requires Inv-loop μ-loop Inv-lines μ-lines
-first-earlier-requires c κs = let row = row-of c in (can-test row .long, start row .pre .1 .1 .1 .1)
+unfolding areas
+first-earlier-requires c κs = let row = row-of c in (can-test row .long, (can-step row .pairs, start row .pre .1 .1 .1 .1))
 
 loop-holds : tie.Need-loop-holds Inv-loop μ-loop Inv-lines μ-lines
 unfolding areas
@@ -145,9 +146,11 @@ add-t23 : tie.Need-add-t23 Inv-loop μ-loop Inv-lines μ-lines
 add-t23 c = omega (arith, can-test (row-of (bound-in (c .before .before .before))) .counts .lines)
 
 next-earlier-requires : tie.Need-next-earlier-requires Inv-loop μ-loop Inv-lines μ-lines
+unfolding areas
 next-earlier-requires c κs =
     let here = c .before .before in
-    (start (row-of (bound-in here)) .pre .1 .1 .1 .1, earlier-few _ _ _ _ (can-clash here))
+    let row = row-of (bound-in here) in
+    (can-step row .pairs, (start row .pre .1 .1 .1 .1, earlier-few _ _ _ _ (can-clash here)))
 
 loop-less : tie.Need-loop-less Inv-loop μ-loop Inv-lines μ-lines
 unfolding areas

@@ -1,82 +1,31 @@
--- `search::next_earlier` meets its contract: a check that walks the index may ask it. Assumes nothing.
-use native.Mathlib.Omega.{arith}
-use mathlib.Core.Path.{_∙_}
+-- `search::next_earlier` meets its contract: of 13 along the chain of a pair, of the others as `next_datum` has it. Assumes nothing.
 use borrow.Author.Needs.{needs}
-use Rattle.tables.specs.Read.{cell}
-use Rattle.index.specs.Index.{nextIn}
-use Rattle.search.specs.Search.{Indexed}
-use Rattle.search.proofs.Dispatch.{step-edges, step-properties, step-one, index-asked}
+use Rattle.search.proofs.Dispatch.{next-of-pair, next-of-datum}
 use Rattle.search.proofs.next_earlier.Statement.{statement}
 use Rattle.search.proofs.next_earlier.Tie as tie
 
-abbrev start : tie.After-by-index → tie.Start
-start c = c .before .before .before .before
+-- from a branch: the function's start
+abbrev start13 : tie.Then1 → tie.Start
+start13 c = c .before .before .before .before .before
 
--- the index, where it is walked
-linked : (c : tie.Then1) → let o = start (c .before) in Indexed (o .args .g .now) (o .args .p .now) (o .args .ix .now)
-linked c = index-asked _ _ _ _ (start (c .before) .args .r) _ (c .before .by-index .ensures) (start (c .before) .pre .0) (c .if1 .taken)
+abbrev start : tie.Else1 → tie.Start
+start c = c .before .before .before .before .before
 
-reads-edges : tie.Need-shared-slice-read-next-row
-reads-edges c = omega (arith, linked (c .before .before .before) .nodesLong)
+asks-pair : tie.Need-next-pair-requires
+asks-pair c κs = ((start13 c .pre .0 .held) (c .if1 .taken), start13 c .pre .1 .1)
 
-fits-edges : tie.Need-cast-next-row
-unfolding cell
-fits-edges c = omega (arith, linked (c .before .before .before) .edges .keyed .few)
+returns-pair : tie.Need-returns
+returns-pair c =
+    let o = start13 (c .before) in
+    next-of-pair _ (o .args .a .now) (o .args .g .now) (o .args .p .now) (o .args .ix .now) (o .args .r) _ (o .args .j) (c .before .if1 .taken) (c .next-pair .ensures)
 
-asks-edges : tie.Need-next-row-requires
-asks-edges c κs = let ready = linked (c .before .before .before) in (ready .edges .long, (ready .edges .low, start (c .before .before .before .before) .pre .1))
+asks-datum : tie.Need-next-datum-requires
+asks-datum c κs = let o = start c in (o .pre .1)
 
-returns-edges : tie.Need-returns
-unfolding cell nextIn
-returns-edges c =
-    let here = c .before .before in
-    let indexed = here .before .before in
-    let o = start (indexed .before) in
-    c .next-row .ensures
-    ∙ step-edges _ (o .args .g .now) (o .args .p .now) (o .args .ix .now) (o .args .r) _ (indexed .before .by-index .ensures)
-    (o .args .j) (indexed .if1 .taken) (here .if2 .taken)
-
-reads-properties : tie.Need-shared-slice-read-next-row-2
-reads-properties c = omega (arith, linked (c .before .before .before) .propertiesLong)
-
-fits-properties : tie.Need-cast-next-row-2
-unfolding cell
-fits-properties c = omega (arith, linked (c .before .before .before) .properties .keyed .few)
-
-asks-properties : tie.Need-next-row-requires-2
-asks-properties c κs = let ready = linked (c .before .before .before) in (ready .properties .long, (ready .properties .low, start (c .before .before .before .before) .pre .1))
-
-returns-properties : tie.Need-returns-2
-unfolding cell nextIn
-returns-properties c =
-    let here = c .before .before in
-    let indexed = here .before .before in
-    let o = start (indexed .before) in
-    c .next-row2 .ensures
-    ∙ step-properties _ (o .args .g .now) (o .args .p .now) (o .args .ix .now) (o .args .r) _ (indexed .before .by-index .ensures)
-    (o .args .j) (indexed .if1 .taken) (here .if2 .left)
-
-adds-one : tie.Need-add-result
-adds-one c = search needs
-
-returns-next : tie.Need-returns-3
-returns-next c =
+returns-datum : tie.Need-returns-2
+returns-datum c =
     let o = start (c .before) in
-    step-one _ (o .args .g .now) (o .args .p .now) (o .args .ix .now) (o .args .r) _ (c .before .by-index .ensures) (o .args .j)
-    (c .if1 .left)
+    next-of-datum _ (o .args .a .now) (o .args .g .now) (o .args .p .now) (o .args .ix .now) (o .args .r) _ (o .args .j) (c .before .if1 .left) (c .next-datum .ensures)
 
 pub next-earlier-spec : {M : Type 1} → statement M
-next-earlier-spec =
-    tie.close
-    (tie.spec
-    (λ c κs. search needs)
-    reads-edges
-    fits-edges
-    asks-edges
-    returns-edges
-    reads-properties
-    fits-properties
-    asks-properties
-    returns-properties
-    adds-one
-    returns-next)
+next-earlier-spec = tie.close (tie.spec asks-pair returns-pair asks-datum returns-datum)

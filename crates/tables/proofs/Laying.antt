@@ -8,9 +8,9 @@ use lib.ListN.{length, set, replicate, length-replicate, length-set}
 use borrow.Author.Tests.{le-leb, lt-leb}
 use Rattle.rules.specs.Lists.{those, keepIf}
 use Rattle.rules.specs.Text.{Row}
-use Rattle.tables.specs.Layout.{laid, belongs, table, counted, allValues, schemaHead, schemaArea, nodeArea, propertyArea, valueArea, queryArea}
-use Rattle.tables.specs.Fill.{queriesIn, SchemaFits, GraphFits}
-use Rattle.tables.specs.declared.Queries.{Queries}
+use Rattle.tables.specs.Layout.{laid, belongs, table, counted, allValues, schemaHead, schemaLaid, schemaArea, nodeArea, propertyArea, valueArea, queryArea}
+use Rattle.tables.specs.Fill.{queriesIn, schemaCountsOf, headOf, SchemaFits, GraphFits}
+use Rattle.tables.specs.declared.SchemaCounts.{SchemaCounts}
 use Rattle.tables.proofs.Laid.{laid-length}
 use Rattle.tables.proofs.Narrow.{narrow-length}
 use Rattle.tables.proofs.Wide.{wide-table-length}
@@ -122,35 +122,28 @@ node-laid rs n a₀ a₁ v w h e₀ e₁ p q = head-stored (v ∷ w ∷ []) a₁
 
 -- ---- the schema
 
--- in an area of length n each table has room at its place
-module _ (rs : List Row) (n : ℕ) (f : SchemaFits rs) (m : 9992 ≤ n) where
-  pub type-room : 8 + length (table 1 0 rs) ≤ n
+-- each table has room before the next, and the last in the area
+module _ (rs : List Row) (f : SchemaFits rs) where
+  pub type-room : 8 + length (table 1 0 rs) ≤ 200
   type-room = let h = f .types in omega (arith, narrow-long 1 rs (omega arith))
 
-  pub field-room : 200 + length (table 2 0 rs) ≤ n
+  pub field-room : 200 + length (table 2 0 rs) ≤ 584
   field-room = let h = f .fields in omega (arith, narrow-long 2 rs (omega arith))
 
-  pub arg-room : 584 + length (table 3 0 rs) ≤ n
+  pub arg-room : 584 + length (table 3 0 rs) ≤ 776
   arg-room = let h = f .args in omega (arith, narrow-long 3 rs (omega arith))
 
-  pub has-room : 776 + length (table 4 0 rs) ≤ n
+  pub has-room : 776 + length (table 4 0 rs) ≤ 3848
   has-room = let h = f .has in omega (arith, narrow-long 4 rs (omega arith))
 
-  pub takes-room : 3848 + length (table 5 0 rs) ≤ n
+  pub takes-room : 3848 + length (table 5 0 rs) ≤ 6920
   takes-room = let h = f .takes in omega (arith, narrow-long 5 rs (omega arith))
 
-  pub member-room : 6920 + length (table 6 0 rs) ≤ n
+  pub member-room : 6920 + length (table 6 0 rs) ≤ 9992
   member-room = let h = f .members in omega (arith, narrow-long 6 rs (omega arith))
 
--- cleared, three tables, three more, and the head
-pub schema-laid : (rs : List Row) (n : ℕ) (a₀ a₁ a₂ a₃ : List ℕ) (v₁ v₂ v₃ v₄ v₅ v₆ : ℕ) (q : Queries) → a₀ ≡ replicate n 0
-    → a₁ ≡ laid 584 (table 3 0 rs) (laid 200 (table 2 0 rs) (laid 8 (table 1 0 rs) a₀))
-    → a₂ ≡ laid 6920 (table 6 0 rs) (laid 3848 (table 5 0 rs) (laid 776 (table 4 0 rs) a₁))
-    → a₃ ≡ laid 0 (v₁ ∷ v₂ ∷ v₃ ∷ v₄ ∷ v₅ ∷ v₆ ∷ q .count ∷ q .first ∷ []) a₂
-    → v₁ ≡ counted 1 rs → v₂ ≡ counted 2 rs → v₃ ≡ counted 3 rs → v₄ ≡ counted 4 rs → v₅ ≡ counted 5 rs → v₆ ≡ counted 6 rs
-    → q ≡ queriesIn rs → a₃ ≡ schemaArea n rs
-unfolding schemaArea schemaHead queriesIn
-schema-laid rs n a₀ a₁ a₂ a₃ v₁ v₂ v₃ v₄ v₅ v₆ q e₀ e₁ e₂ e₃ p₁ p₂ p₃ p₄ p₅ p₆ p₇ =
-    e₃
-    ∙ ap (λ (x : Queries). laid 0 (v₁ ∷ v₂ ∷ v₃ ∷ v₄ ∷ v₅ ∷ v₆ ∷ x .count ∷ x .first ∷ []) a₂) p₇
-    ∙ cc
+-- cleared, the tables, and the head
+pub schema-laid : (rs : List Row) (n : ℕ) (a₀ a₁ a₂ : List ℕ) (c : SchemaCounts) → a₀ ≡ replicate n 0 → a₁ ≡ schemaLaid rs a₀
+    → a₂ ≡ laid 0 (headOf c) a₁ → c ≡ schemaCountsOf rs → a₂ ≡ schemaArea n rs
+unfolding schemaArea schemaHead headOf schemaCountsOf queriesIn
+schema-laid rs n a₀ a₁ a₂ c e₀ e₁ e₂ e = e₂ ∙ ap (λ (x : SchemaCounts). laid 0 (headOf x) a₁) e ∙ cc

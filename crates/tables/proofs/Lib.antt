@@ -17,3 +17,4 @@ pub mod Labelling
 pub mod Areas
 pub mod Graphs
 pub mod GraphLaying
+pub mod SchemaLaying

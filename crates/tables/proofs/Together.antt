@@ -4,8 +4,9 @@ use native.Mathlib.Omega.{arith}
 use mathlib.Core.Path.{_≡_, refl, sym, ap, _∙_, subst}
 use mathlib.Core.Bool.{Bool, true, false, cond}
 use mathlib.Core.List.{List, [], _∷_, _++_}
-use lib.ListN.{length, getD, drop, length-append}
+use lib.ListN.{length, drop, length-append}
 use Rattle.rules.specs.Text.{Row, row, rows}
+use Rattle.rules.proofs.Clean.{Each}
 use Rattle.text.specs.declared.Row.{Row as Read}
 use Rattle.text.specs.Line.{lineAt}
 use Rattle.text.proofs.Tools.{by-test}
@@ -186,9 +187,17 @@ module _ {s : List ℕ} {from : List (ℕ × ℕ)} {area₀ : List ℕ} {ts : Li
   order-here : Order (length area) ts start (x ∷ behind)
   order-here = subst (Order (length area) ts start) (t .rest) (f .order)
 
-  -- what a table still takes
-  pub left-space : (k : ℕ) → space k (r .letter) ≤ length (table k start (rows (drop here s)))
-  left-space k = omega (arith, own-space x (r .next) r (t .read) k start, table-long start x behind k, ap (λ (rs : List Row). length (table k start rs)) (t .rest))
+  rooms : (us : List (ℕ × ℕ)) (p n : ℕ) → p ≤ n → Order p us start (x ∷ behind)
+      → Each (λ (u : ℕ × ℕ). u .1 + space (u .0) (r .letter) ≤ n) us
+  rooms [] p n h o = tt
+  rooms ((k, place) ∷ us) p n h o = (
+    omega (arith, o .0, own-space x (r .next) r (t .read) k start, table-long start x behind k),
+    rooms us place n (omega (arith, o .0)) (o .1),
+  )
+
+  -- each table has room for the row
+  pub left-rooms : Each (λ (u : ℕ × ℕ). u .1 + space (u .0) (r .letter) ≤ length area) ts
+  left-rooms = rooms ts (length area) (length area) (omega arith) order-here
 
   pub left-on : {ts′ : List (ℕ × ℕ)} {area′ : List ℕ} {start′ : ℕ} → ts′ ≡ moved ts start x → area′ ≡ puts ts start x area
       → start′ ≡ start + valued x → Left s from area₀ ts′ area′ start′ (r .next)

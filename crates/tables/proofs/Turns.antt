@@ -112,7 +112,7 @@ module _ (x : Row) (n : ℕ) (r : Read) (e : r ≡ whole x n) where
   unfolding whole
   letter-read = ap (λ (y : Read). y .letter) e
 
-  pub count-read : r .count ≡ length (x .numbers)
+  count-read : r .count ≡ length (x .numbers)
   unfolding whole
   count-read = ap (λ (y : Read). y .count) e
 

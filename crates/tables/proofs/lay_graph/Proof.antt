@@ -1,7 +1,7 @@
 -- `tables::lay_graph` meets its contract. Assumes nothing.
 use Prim.Native.Nat.{_≤_}
 use native.Mathlib.Omega.{arith}
-use mathlib.Core.Path.{_≡_, ap, _∙_}
+use mathlib.Core.Path.{ap, _∙_}
 use lib.ListN.{length, length-set}
 use Rattle.tables.specs.Fill.{countsOf}
 use Rattle.tables.specs.declared.GraphCounts.{GraphCounts}

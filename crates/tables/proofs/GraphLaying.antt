@@ -9,7 +9,7 @@ use Rattle.rules.proofs.Clean.{Each}
 use Rattle.text.specs.declared.Row.{Row as Read}
 use Rattle.text.specs.Line.{lineAt}
 use Rattle.tables.specs.Layout.{laid, valued, table, counted, allValues}
-use Rattle.tables.specs.Fill.{Plain, rowIn, space, ownValues, countsOf, GraphFits}
+use Rattle.tables.specs.Fill.{Plain, rowIn, space, ownValues, graphCountsOf, GraphFits}
 use Rattle.tables.proofs.Turns.{Turn}
 use Rattle.tables.proofs.Valuing.{Valued, valued-start, valued-on, valued-count, own-valued}
 use Rattle.tables.proofs.Laying.{narrow-long, wide-long, node-room, edge-room, property-room, value-room}
@@ -96,8 +96,8 @@ module _ {s g₀ g p₀ p v₀ v : List ℕ} {nodes edges properties values here
     edges = (edges - 1544) / 14;
     properties = (properties - 8) / 14;
     values = values - 8;
-  } ≡ countsOf (rows s)
-  unfolding countsOf
+  } ≡ graphCountsOf (rows s)
+  unfolding graphCountsOf
   counts-end =
       let a : (nodes - 8) / 3 ≡ counted 7 (rows s) = omega (arith, nodes-end) in
       let b : (edges - 1544) / 14 ≡ counted 8 (rows s) = omega (arith, edges-end) in

@@ -4,7 +4,6 @@ pub mod Cells
 pub mod Stores
 pub mod Belonging
 pub mod Turns
-pub mod Filling
 pub mod Asking
 pub mod Putting
 pub mod Valuing
@@ -18,3 +17,4 @@ pub mod Areas
 pub mod Graphs
 pub mod GraphLaying
 pub mod SchemaLaying
+pub mod QueryLaying

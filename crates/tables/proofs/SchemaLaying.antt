@@ -4,18 +4,17 @@ use native.Mathlib.Omega.{arith}
 use mathlib.Core.Path.{_≡_, refl, ap, _∙_}
 use mathlib.Core.List.{List, [], _∷_}
 use lib.ListN.{length, getD}
-use borrow.Author.Tests.{le-leb}
 use Rattle.rules.specs.Text.{lines, Row, row, rows}
 use Rattle.rules.proofs.Clean.{Each}
 use Rattle.text.specs.declared.Row.{Row as Read}
 use Rattle.text.specs.Line.{lineAt}
-use Rattle.tables.specs.Layout.{laid, cells, valued, table, counted, schemaLaid}
+use Rattle.tables.specs.Layout.{laid, valued, table, counted, schemaLaid}
 use Rattle.tables.specs.Fill.{Plain, rowIn, space, askedWith, schemaCountsOf, SchemaFits}
 use Rattle.tables.specs.declared.Queries.{Queries}
 use Rattle.tables.proofs.Turns.{Turn}
 use Rattle.tables.proofs.Asking.{Asked, asked-start, asked-on, asked-all}
 use Rattle.tables.proofs.Laying.{narrow-long, type-room, field-room, arg-room, has-room, takes-room, member-room}
-use Rattle.tables.proofs.Together.{own, own-read, own-space, places, ends, puts, moved, todo}
+use Rattle.tables.proofs.Together.{own, own-read-else, own-space, places, ends, puts, moved, todo}
 use Rattle.tables.proofs.Together.{Left, left-start, left-on, left-all, left-ends}
 
 -- the tables of a schema, by the places where their next rows go
@@ -42,11 +41,6 @@ schema-start {s} plain f h =
       asked = asked-start plain;
     }
 
--- a narrow row does not say how many values stand before it
-own-narrow : (k a b : ℕ) (x : Row) → k ≤ 7 → own k a x ≡ own k b x
-unfolding own cells
-own-narrow k a b x h = simp (le-leb k 7 h)
-
 -- one turn
 module _ {s area₀ area : List ℕ} {types fields args has takes members : ℕ} {q : Queries} {here : ℕ}
     (f : SchemaLeft s area₀ area types fields args has takes members q here) {r : Read} (t : Turn s here r) where
@@ -55,7 +49,7 @@ module _ {s area₀ area : List ℕ} {types fields args has takes members : ℕ}
 
   -- what was laid of the row in table k, and where the next goes
   put : (k : ℕ) → k ≤ 7 → rowIn k 0 r ≡ own k (f .before) x
-  put k h = own-read x (r .next) r (t .read) k 0 ∙ own-narrow k 0 (f .before) x h
+  put k h = own-read-else x (r .next) r (t .read) k 0 (λ e. absurd (omega arith)) (f .before)
 
   wide : (k : ℕ) → space k (r .letter) ≡ length (own k (f .before) x)
   wide k = own-space x (r .next) r (t .read) k (f .before)

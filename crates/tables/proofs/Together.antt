@@ -5,6 +5,7 @@ use mathlib.Core.Path.{_≡_, refl, sym, ap, _∙_, subst}
 use mathlib.Core.Bool.{Bool, true, false, cond}
 use mathlib.Core.List.{List, [], _∷_, _++_}
 use lib.ListN.{length, drop, length-append}
+use borrow.Author.Tests.{ne-eqb}
 use Rattle.rules.specs.Text.{Row, row, rows}
 use Rattle.rules.proofs.Clean.{Each}
 use Rattle.text.specs.declared.Row.{Row as Read}
@@ -25,10 +26,18 @@ table-own : (k start : ℕ) (x : Row) (rs : List Row) → table k start (x ∷ r
 unfolding own table
 table-own k start x rs = by-test (belongs k x) (λ e. simp e) (λ e. simp e)
 
+-- only a property says how many values stand before it
+own-before : (k a b : ℕ) (x : Row) → (k ≡ 9 → ⊥) → own k a x ≡ own k b x
+unfolding own cells
+own-before k a b x h = simp (ne-eqb k 9 h)
+
 module _ (x : Row) (n : ℕ) (r : Read) (e : r ≡ whole x n) (k start : ℕ) where
   pub own-read : rowIn k start r ≡ own k start x
   unfolding own rowIn
   own-read = cc (belongs-read x n r e k, cells-read x n r e k start)
+
+  pub own-read-else : (k ≡ 9 → ⊥) → (before : ℕ) → rowIn k start r ≡ own k before x
+  own-read-else h before = own-read ∙ own-before k start before x h
 
   pub own-space : space k (r .letter) ≡ length (own k start x)
   unfolding own space

@@ -51,8 +51,8 @@ unfoldable pub ownValues : Row → List ℕ
 ownValues r = cond (is P r) (valuesOf r) []
 
 -- how many nodes, edges, properties and values a graph has
-unfoldable pub countsOf : List Row → GraphCounts
-countsOf rs =
+unfoldable pub graphCountsOf : List Row → GraphCounts
+graphCountsOf rs =
     record { nodes = counted 7 rs; edges = counted 8 rs; properties = counted 9 rs; values = length (allValues rs) }
 
 -- the Q records: how many there are, and the type that the first names

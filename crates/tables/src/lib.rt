@@ -9,7 +9,7 @@ ghost use Rattle.rules.proofs.Clean.{Each};
 ghost use Rattle.text.specs.Line.{lineAt, rowAt};
 ghost use Rattle.tables.specs.Layout.{laid, belongs, width, table, counted, allValues, schemaLaid, schemaArea, nodeArea, propertyArea, valueArea, queryArea};
 ghost use Rattle.tables.specs.Read.{cell};
-ghost use Rattle.tables.specs.Fill.{Plain, lettered, cellsOf, rowIn, space, valuesIn, ownValues, countsOf, askedWith, schemaCountsOf, headOf, SchemaFits, GraphFits};
+ghost use Rattle.tables.specs.Fill.{Plain, lettered, cellsOf, rowIn, space, valuesIn, ownValues, graphCountsOf, askedWith, schemaCountsOf, headOf, SchemaFits, GraphFits};
 
 // Zeroes a whole area.
 pub fn clear(area: &mut [u32])
@@ -151,32 +151,6 @@ fn put_in(k: u32, area: &mut [u32], place: usize, start: u32, r: text::Row) -> u
     place
 }
 
-// Lays table k of an accepted text over an area from a place on, and says how many rows it has.
-fn fill(k: u32, s: &[u8], area: &mut [u32], base: usize) -> u32
-    requires { ⌜ length (now s) ≤ 65535 ⌝ }
-    requires { ⌜ Each Plain (lines (now s)) ⌝ }
-    requires { ⌜ base + length (table k 0 (rows (now s))) ≤ length (now area) ⌝ }
-    ensures { λ r. ⌜ r ≡ counted k (rows (now (s .entry))) ⌝ }
-    ensures { λ _. ⌜ now (area .exit) ≡ laid base (table k 0 (rows (now (s .entry)))) (now (area .entry)) ⌝ }
-{
-    let mut n: u32 = 0;
-    let mut start: u32 = 0;
-    let mut place = base;
-    let mut at: usize = 0;
-    while at < s.len() {
-        let r = text::read_row(s, at);
-        let nums = r.nums;
-        let before = start;
-        start += values_in(r.letter, r.count, nums[3]) as u32;
-        at = r.next;
-        if belongs_to(k, r.letter) {
-            place = put_row(area, place, k, before, r);
-            n += 1;
-        }
-    }
-    n
-}
-
 // Lays the numbers of the line at `at`, without the first `skip`, over an area from a place on, and says where the next go.
 fn put_numbers(s: &[u8], at: usize, skip: usize, area: &mut [u32], base: usize) -> usize
     requires { ⌜ at < length (now s) ⌝ }
@@ -238,7 +212,7 @@ fn fill_graph(s: &[u8], g: &mut [u32], p: &mut [u32], v: &mut [u32]) -> GraphCou
     requires { ⌜ 15880 ≤ length (now g) ⌝ }
     requires { ⌜ 14344 ≤ length (now p) ⌝ }
     requires { ⌜ 8200 ≤ length (now v) ⌝ }
-    ensures { λ r. ⌜ r ≡ countsOf (rows (now (s .entry))) ⌝ }
+    ensures { λ r. ⌜ r ≡ graphCountsOf (rows (now (s .entry))) ⌝ }
     ensures { λ _. ⌜ now (g .exit) ≡ laid 1544 (table 8 0 (rows (now (s .entry)))) (laid 8 (table 7 0 (rows (now (s .entry)))) (now (g .entry))) ⌝ }
     ensures { λ _. ⌜ now (p .exit) ≡ laid 8 (table 9 0 (rows (now (s .entry)))) (now (p .entry)) ⌝ }
     ensures { λ _. ⌜ now (v .exit) ≡ laid 8 (allValues (rows (now (s .entry)))) (now (v .entry)) ⌝ }
@@ -389,6 +363,25 @@ pub fn lay_graph(s: &[u8], g: &mut [u32], p: &mut [u32], v: &mut [u32])
     v[0] = c.values;
 }
 
+// Lays the entries of an accepted query over an area, and says how many there are.
+fn fill_query(s: &[u8], area: &mut [u32]) -> u32
+    requires { ⌜ length (now s) ≤ 65535 ⌝ }
+    requires { ⌜ Each Plain (lines (now s)) ⌝ }
+    requires { ⌜ length (rows (now s)) ≤ 256 ⌝ }
+    requires { ⌜ 3592 ≤ length (now area) ⌝ }
+    ensures { λ r. ⌜ r ≡ counted 10 (rows (now (s .entry))) ⌝ }
+    ensures { λ _. ⌜ now (area .exit) ≡ laid 8 (table 10 0 (rows (now (s .entry)))) (now (area .entry)) ⌝ }
+{
+    let mut place: usize = 8;
+    let mut at: usize = 0;
+    while at < s.len() {
+        let r = text::read_row(s, at);
+        place = put_in(10, area, place, 0, r);
+        at = r.next;
+    }
+    ((place - 8) / 14) as u32
+}
+
 // Lays an accepted query of at most 256 entries out.
 pub fn lay_query(s: &[u8], area: &mut [u32])
     requires { ⌜ length (now s) ≤ 65535 ⌝ }
@@ -398,6 +391,6 @@ pub fn lay_query(s: &[u8], area: &mut [u32])
     ensures { λ _. ⌜ now (area .exit) ≡ queryArea (length (now (area .entry))) (rows (now (s .entry))) ⌝ }
 {
     clear(area);
-    let entries = fill(10, s, area, 8);
+    let entries = fill_query(s, area);
     area[0] = entries;
 }

@@ -6,7 +6,7 @@ use mathlib.Core.Bool.{true, false, cond}
 use mathlib.Core.List.{List, _∷_}
 use lib.Dec.{eqb}
 use lib.ListN.{length, getD, drop}
-use borrow.Author.Tests.{eq-eqb, ne-eqb, eqb-true}
+use borrow.Author.Tests.{eq-eqb, ne-eqb, eqb-true, eqb-false}
 use Rattle.rules.specs.Lists.{those}
 use Rattle.rules.specs.Text.{lines, Row, row, rows, at, Q}
 use Rattle.rules.specs.Schema.{is, nth}
@@ -14,12 +14,26 @@ use Rattle.rules.proofs.Clean.{Each}
 use Rattle.text.specs.declared.Row.{Row as Read}
 use Rattle.text.specs.Line.{lineAt}
 use Rattle.text.proofs.Tools.{by-test}
-use Rattle.tables.specs.Fill.{Plain, queriesIn}
+use Rattle.tables.specs.Fill.{Plain, queriesIn, askedWith}
 use Rattle.tables.specs.declared.Queries.{Queries}
 use Rattle.tables.proofs.Turns.{Turn, rows-end, letter-read, number-read}
 
 abbrev queries : ℕ → ℕ → Queries
 queries n f = record { count = n; first = f }
+
+-- a row more
+module _ (q : Queries) (l n : ℕ) where
+  pub ask-none : (l ≡ 81 → ⊥) → q ≡ askedWith q l n
+  unfolding askedWith
+  ask-none h = simp (ne-eqb l 81 h)
+
+  pub ask-first : l ≡ 81 → q .count ≡ 0 → queries 1 n ≡ askedWith q l n
+  unfolding askedWith
+  ask-first h z = simp (eq-eqb l 81 h, eq-eqb (q .count) 0 z)
+
+  pub ask-more : l ≡ 81 → (q .count ≡ 0 → ⊥) → queries (q .count + 1) (q .first) ≡ askedWith q l n
+  unfolding askedWith
+  ask-more h z = simp (eq-eqb l 81 h, ne-eqb (q .count) 0 z)
 
 -- where `count` were found and the first names `first`, with those of some further rows
 pub asked : ℕ → ℕ → List Row → Queries
@@ -67,7 +81,7 @@ module _ {s : List ℕ} {count first here : ℕ} (f : Asked s count first here) 
   asks : r .letter ≡ 81 → is Q x ≡ true
   asks e = eq-eqb (x .letter) 81 (sym (letter-read x (r .next) r (t .read)) ∙ e)
 
-  pub asked-first : r .letter ≡ 81 → count ≡ 0 → Asked s 1 (getD (r .nums) 0 0) (r .next)
+  asked-first : r .letter ≡ 81 → count ≡ 0 → Asked s 1 (getD (r .nums) 0 0) (r .next)
   asked-first e z =
       let a = t .after in
       record {
@@ -81,7 +95,7 @@ module _ {s : List ℕ} {count first here : ℕ} (f : Asked s count first here) 
         inside = t .inside;
       }
 
-  pub asked-more : r .letter ≡ 81 → (count ≡ 0 → ⊥) → Asked s (count + 1) first (r .next)
+  asked-more : r .letter ≡ 81 → (count ≡ 0 → ⊥) → Asked s (count + 1) first (r .next)
   asked-more e z =
       let a = t .after in
       let m = f .few in
@@ -93,7 +107,7 @@ module _ {s : List ℕ} {count first here : ℕ} (f : Asked s count first here) 
         inside = t .inside;
       }
 
-  pub asked-by : (r .letter ≡ 81 → ⊥) → Asked s count first (r .next)
+  asked-by : (r .letter ≡ 81 → ⊥) → Asked s count first (r .next)
   asked-by e =
       let a = t .after in
       let m = f .few in
@@ -105,6 +119,19 @@ module _ {s : List ℕ} {count first here : ℕ} (f : Asked s count first here) 
         few = omega arith;
         inside = t .inside;
       }
+
+  -- with the row, whatever its letter
+  pub asked-on : {q : Queries} → q ≡ askedWith (queries count first) (r .letter) (getD (r .nums) 0 0) → Asked s (q .count) (q .first) (r .next)
+  unfolding askedWith
+  asked-on {q} e =
+      by-test (eqb (r .letter) Q)
+      (λ l. by-test (eqb count 0)
+      (λ z. let same : q ≡ queries 1 (getD (r .nums) 0 0) = simp (l, z) at e in
+      rw same (asked-first (eqb-true (r .letter) Q l) (eqb-true count 0 z)))
+      (λ z. let same : q ≡ queries (count + 1) first = simp (l, z) at e in
+      rw same (asked-more (eqb-true (r .letter) Q l) (eqb-false count 0 z))))
+      (λ l. let same : q ≡ queries count first = simp l at e in
+      rw same (asked-by (eqb-false (r .letter) Q l)))
 
 pub asked-all : {s : List ℕ} {count first here : ℕ} → Asked s count first here → length s ≤ here
     → record { count = count; first = first } ≡ queriesIn (rows s)

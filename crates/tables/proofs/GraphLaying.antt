@@ -9,23 +9,23 @@ use Rattle.rules.proofs.Clean.{Each}
 use Rattle.text.specs.declared.Row.{Row as Read}
 use Rattle.text.specs.Line.{lineAt}
 use Rattle.tables.specs.Layout.{laid, valued, table, counted, allValues}
-use Rattle.tables.specs.Fill.{Plain, rowIn, space, ownValues, countsOf, GraphFits}
+use Rattle.tables.specs.Fill.{Plain, rowIn, space, ownValues, graphCountsOf, GraphFits}
 use Rattle.tables.proofs.Turns.{Turn}
 use Rattle.tables.proofs.Valuing.{Valued, valued-start, valued-on, valued-count, own-valued}
 use Rattle.tables.proofs.Laying.{narrow-long, wide-long, node-room, edge-room, property-room, value-room}
-use Rattle.tables.proofs.Together.{own, Order, own-read, own-space, places, ends, puts, moved, todo}
-use Rattle.tables.proofs.Together.{Left, left-start, left-space, left-on, left-all, left-ends}
+use Rattle.tables.proofs.Together.{own, own-read, own-space, places, ends, puts, moved, todo}
+use Rattle.tables.proofs.Together.{Left, left-start, left-on, left-all, left-ends}
 
 -- the tables of the nodes and edges, by the places where their next rows go, and that of the properties
-abbrev pub nodeTables : ℕ → ℕ → List (ℕ × ℕ)
-nodeTables nodes edges = (8, edges) ∷ (7, nodes) ∷ []
+abbrev pub nodePlaces : ℕ → ℕ → List (ℕ × ℕ)
+nodePlaces nodes edges = (8, edges) ∷ (7, nodes) ∷ []
 
-abbrev pub propertyTable : ℕ → List (ℕ × ℕ)
-propertyTable properties = (9, properties) ∷ []
+abbrev pub propertyPlaces : ℕ → List (ℕ × ℕ)
+propertyPlaces properties = (9, properties) ∷ []
 
 pub record GraphLeft (s g₀ g p₀ p v₀ v : List ℕ) (nodes edges properties values here : ℕ) : Type 0 where
-  pub nodesLeft : Left s (nodeTables 8 1544) g₀ (nodeTables nodes edges) g (values - 8) here
-  pub propertiesLeft : Left s (propertyTable 8) p₀ (propertyTable properties) p (values - 8) here
+  pub nodesLeft : Left s (nodePlaces 8 1544) g₀ (nodePlaces nodes edges) g (values - 8) here
+  pub propertiesLeft : Left s (propertyPlaces 8) p₀ (propertyPlaces properties) p (values - 8) here
   pub valuesLeft : Valued s 8 v₀ v values here
 
 pub graph-start : {s g p v : List ℕ} → Each Plain (lines s) → GraphFits (rows s) → 15880 ≤ length g → 14344 ≤ length p → 8200 ≤ length v
@@ -42,15 +42,6 @@ module _ {s g₀ g p₀ p v₀ v : List ℕ} {nodes edges properties values here
     (f : GraphLeft s g₀ g p₀ p v₀ v nodes edges properties values here) {r : Read} (t : Turn s here r) where
   abbrev x : Row
   x = row (lineAt s here)
-
-  pub edge-space : edges + space 8 (r .letter) ≤ length g
-  edge-space = let o = f .nodesLeft .order in omega (arith, o .0, left-space (f .nodesLeft) t 8)
-
-  pub node-space : nodes + space 7 (r .letter) ≤ length g
-  node-space = let o = f .nodesLeft .order in omega (arith, o .0, o .1 .0, left-space (f .nodesLeft) t 7)
-
-  pub property-space : properties + space 9 (r .letter) ≤ length p
-  property-space = let o = f .propertiesLeft .order in omega (arith, o .0, left-space (f .propertiesLeft) t 9)
 
   module _ {start : ℕ} (e : start ≡ values - 8) where
     -- what was laid of the row in table k, and where the next goes
@@ -105,8 +96,8 @@ module _ {s g₀ g p₀ p v₀ v : List ℕ} {nodes edges properties values here
     edges = (edges - 1544) / 14;
     properties = (properties - 8) / 14;
     values = values - 8;
-  } ≡ countsOf (rows s)
-  unfolding countsOf
+  } ≡ graphCountsOf (rows s)
+  unfolding graphCountsOf
   counts-end =
       let a : (nodes - 8) / 3 ≡ counted 7 (rows s) = omega (arith, nodes-end) in
       let b : (edges - 1544) / 14 ≡ counted 8 (rows s) = omega (arith, edges-end) in

@@ -1,17 +1,16 @@
--- Whole areas: cleared, then laid table by table, and the head last; at each step the next table has room. Assumes nothing.
+-- Whole areas: cleared, then laid row by row, and the head last; each table has room at its place. Assumes nothing.
 use Prim.Native.Nat.{ℕ, suc, _+_, _*_, _≤_, _<_}
 use native.Mathlib.Omega.{arith}
 use mathlib.Core.Path.{_≡_, ap, _∙_}
 use mathlib.Core.Bool.{Bool, true, false}
 use mathlib.Core.List.{List, [], _∷_}
-use lib.ListN.{length, set, replicate, length-replicate, length-set}
+use lib.ListN.{length, set, replicate}
 use borrow.Author.Tests.{le-leb, lt-leb}
 use Rattle.rules.specs.Lists.{those, keepIf}
 use Rattle.rules.specs.Text.{Row}
-use Rattle.tables.specs.Layout.{laid, belongs, table, counted, allValues, schemaHead, schemaTables, nodeArea, propertyArea, valueArea, queryArea}
-use Rattle.tables.specs.Fill.{queriesIn, SchemaFits, GraphFits}
-use Rattle.tables.specs.declared.Queries.{Queries}
-use Rattle.tables.proofs.Laid.{laid-length}
+use Rattle.tables.specs.Layout.{laid, belongs, table, counted, allValues, schemaHead, schemaLaid, schemaTables, nodeArea, propertyArea, valueArea, queryArea}
+use Rattle.tables.specs.Fill.{queriesIn, schemaCountsOf, headOf, SchemaFits, GraphFits}
+use Rattle.tables.specs.declared.SchemaCounts.{SchemaCounts}
 use Rattle.tables.proofs.Narrow.{narrow-length}
 use Rattle.tables.proofs.Wide.{wide-table-length}
 use Rattle.tables.proofs.Stores.{head-stored}
@@ -33,19 +32,11 @@ those-most p (r ∷ rs) = go (those-most p rs) (p r)
     go ih true = omega arith
     go ih false = omega arith
 
-counted-most : (k : ℕ) (rs : List Row) → counted k rs ≤ length rs
+pub counted-most : (k : ℕ) (rs : List Row) → counted k rs ≤ length rs
 unfolding counted
 counted-most k rs = those-most (belongs k) rs
 
--- ---- an area keeps its length
-
-cleared-long : (n : ℕ) (a : List ℕ) → a ≡ replicate n 0 → length a ≡ n
-cleared-long n a e = ap length e ∙ length-replicate n 0
-
-laid-long : (n base : ℕ) (xs a b : List ℕ) → length a ≡ n → base + length xs ≤ length a → b ≡ laid base xs a → length b ≡ n
-laid-long n base xs a b l h e = ap length e ∙ laid-length base xs a h ∙ l
-
--- ---- in the areas of a graph each table has room at its place
+-- ---- each table has room at its place
 
 module _ (rs : List Row) (f : GraphFits rs) where
   pub node-room : 8 + length (table 7 0 rs) ≤ 1544
@@ -60,97 +51,54 @@ module _ (rs : List Row) (f : GraphFits rs) where
   pub value-room : 8 + length (allValues rs) ≤ 8200
   value-room = let h = f .values in omega arith
 
--- ---- one table: the properties, the values, the query's entries
+pub query-room : (rs : List Row) → length rs ≤ 256 → 8 + length (table 10 0 rs) ≤ 3592
+query-room rs h = omega (arith, wide-long 10 rs (omega arith), counted-most 10 rs)
 
-module _ (n : ℕ) (xs a₀ : List ℕ) (m : 8 + length xs ≤ n) (e₀ : a₀ ≡ replicate n 0) where
-  one-room : 8 + length xs ≤ length a₀
-  one-room = omega (arith, cleared-long n a₀ e₀)
+-- ---- cleared, the tables, and the head
 
-  module _ (a₁ : List ℕ) (e₁ : a₁ ≡ laid 8 xs a₀) where
-    one-long : length a₁ ≡ n
-    one-long = laid-long n 8 xs a₀ a₁ (cleared-long n a₀ e₀) one-room e₁
+module _ (rs : List Row) (n : ℕ) (a₀ a₁ : List ℕ) (e₀ : a₀ ≡ replicate n 0) where
+  pub node-laid : (v w : ℕ) → 2 ≤ length a₁ → a₁ ≡ laid 1544 (table 8 0 rs) (laid 8 (table 7 0 rs) a₀) → v ≡ counted 7 rs → w ≡ counted 8 rs
+      → set (set a₁ 0 v) 1 w ≡ nodeArea n rs
+  unfolding nodeArea
+  node-laid v w h e₁ p q = head-stored (v ∷ w ∷ []) a₁ h ∙ cc
 
-    one-same : (v : ℕ) → length (set a₁ 0 v) ≡ n
-    one-same v = length-set a₁ 0 v ∙ one-long
-
-    one-laid : (v w : ℕ) → v ≡ w → set a₁ 0 v ≡ laid 0 (w ∷ []) (laid 8 xs (replicate n 0))
-    one-laid v w e =
-        let l = one-long in
-        head-stored (v ∷ []) a₁ (omega arith)
-        ∙ ap (λ (x : ℕ). laid 0 (x ∷ []) a₁) e
-        ∙ ap (laid 0 (w ∷ [])) (e₁ ∙ ap (laid 8 xs) e₀)
-
-module _ (rs : List Row) (n : ℕ) (f : GraphFits rs) where
-  module _ (m : 14344 ≤ n) (a₀ : List ℕ) (e₀ : a₀ ≡ replicate n 0) where
-    fits-9 : 8 + length (table 9 0 rs) ≤ n
-    fits-9 = omega (arith, property-room rs f)
-
-    pub property-laid : (a₁ : List ℕ) (v : ℕ) → a₁ ≡ laid 8 (table 9 0 rs) a₀ → v ≡ counted 9 rs → set a₁ 0 v ≡ propertyArea n rs
+  module _ (v : ℕ) (h : 1 ≤ length a₁) where
+    pub property-laid : a₁ ≡ laid 8 (table 9 0 rs) a₀ → v ≡ counted 9 rs → set a₁ 0 v ≡ propertyArea n rs
     unfolding propertyArea
-    property-laid a₁ v e₁ e = one-laid n (table 9 0 rs) a₀ fits-9 e₀ a₁ e₁ v (counted 9 rs) e
+    property-laid e₁ e = head-stored (v ∷ []) a₁ h ∙ cc
 
-  module _ (m : 8200 ≤ n) (a₀ : List ℕ) (e₀ : a₀ ≡ replicate n 0) where
-    fits-values : 8 + length (allValues rs) ≤ n
-    fits-values = omega (arith, value-room rs f)
-
-    pub value-laid : (a₁ : List ℕ) (v : ℕ) → a₁ ≡ laid 8 (allValues rs) a₀ → v ≡ length (allValues rs) → set a₁ 0 v ≡ valueArea n rs
+    pub value-laid : a₁ ≡ laid 8 (allValues rs) a₀ → v ≡ length (allValues rs) → set a₁ 0 v ≡ valueArea n rs
     unfolding valueArea
-    value-laid a₁ v e₁ e = one-laid n (allValues rs) a₀ fits-values e₀ a₁ e₁ v (length (allValues rs)) e
+    value-laid e₁ e = head-stored (v ∷ []) a₁ h ∙ cc
 
-module _ (rs : List Row) (n : ℕ) (f : length rs ≤ 256) (m : 3592 ≤ n) (a₀ : List ℕ) (e₀ : a₀ ≡ replicate n 0) where
-  fits-10 : 8 + length (table 10 0 rs) ≤ n
-  fits-10 = omega (arith, wide-long 10 rs (omega arith), counted-most 10 rs)
-
-  pub query-room : 8 + length (table 10 0 rs) ≤ length a₀
-  query-room = one-room n (table 10 0 rs) a₀ fits-10 e₀
-
-  module _ (a₁ : List ℕ) (e₁ : a₁ ≡ laid 8 (table 10 0 rs) a₀) (v : ℕ) where
-    pub query-same : length (set a₁ 0 v) ≡ n
-    query-same = one-same n (table 10 0 rs) a₀ fits-10 e₀ a₁ e₁ v
-
-    pub query-laid : v ≡ counted 10 rs → set a₁ 0 v ≡ queryArea n rs
+    pub query-laid : a₁ ≡ laid 8 (table 10 0 rs) a₀ → v ≡ counted 10 rs → set a₁ 0 v ≡ queryArea n rs
     unfolding queryArea
-    query-laid e = one-laid n (table 10 0 rs) a₀ fits-10 e₀ a₁ e₁ v (counted 10 rs) e
-
--- ---- nodes and edges
-
--- cleared, the nodes, the edges, and the head
-pub node-laid : (rs : List Row) (n : ℕ) (a₀ a₁ : List ℕ) (v w : ℕ) → 2 ≤ length a₁ → a₀ ≡ replicate n 0
-    → a₁ ≡ laid 1544 (table 8 0 rs) (laid 8 (table 7 0 rs) a₀) → v ≡ counted 7 rs → w ≡ counted 8 rs → set (set a₁ 0 v) 1 w ≡ nodeArea n rs
-unfolding nodeArea
-node-laid rs n a₀ a₁ v w h e₀ e₁ p q = head-stored (v ∷ w ∷ []) a₁ h ∙ cc
+    query-laid e₁ e = head-stored (v ∷ []) a₁ h ∙ cc
 
 -- ---- the schema
 
--- in an area of length n each table has room at its place
-module _ (rs : List Row) (n : ℕ) (f : SchemaFits rs) (m : 9992 ≤ n) where
-  pub type-room : 8 + length (table 1 0 rs) ≤ n
+-- each table has room before the next, and the last in the area
+module _ (rs : List Row) (f : SchemaFits rs) where
+  pub type-room : 8 + length (table 1 0 rs) ≤ 200
   type-room = let h = f .types in omega (arith, narrow-long 1 rs (omega arith))
 
-  pub field-room : 200 + length (table 2 0 rs) ≤ n
+  pub field-room : 200 + length (table 2 0 rs) ≤ 584
   field-room = let h = f .fields in omega (arith, narrow-long 2 rs (omega arith))
 
-  pub arg-room : 584 + length (table 3 0 rs) ≤ n
+  pub arg-room : 584 + length (table 3 0 rs) ≤ 776
   arg-room = let h = f .args in omega (arith, narrow-long 3 rs (omega arith))
 
-  pub has-room : 776 + length (table 4 0 rs) ≤ n
+  pub has-room : 776 + length (table 4 0 rs) ≤ 3848
   has-room = let h = f .has in omega (arith, narrow-long 4 rs (omega arith))
 
-  pub takes-room : 3848 + length (table 5 0 rs) ≤ n
+  pub takes-room : 3848 + length (table 5 0 rs) ≤ 6920
   takes-room = let h = f .takes in omega (arith, narrow-long 5 rs (omega arith))
 
-  pub member-room : 6920 + length (table 6 0 rs) ≤ n
+  pub member-room : 6920 + length (table 6 0 rs) ≤ 9992
   member-room = let h = f .members in omega (arith, narrow-long 6 rs (omega arith))
 
--- cleared, three tables, three more, and the head
-pub schema-laid : (rs : List Row) (n : ℕ) (a₀ a₁ a₂ a₃ : List ℕ) (v₁ v₂ v₃ v₄ v₅ v₆ : ℕ) (q : Queries) → a₀ ≡ replicate n 0
-    → a₁ ≡ laid 584 (table 3 0 rs) (laid 200 (table 2 0 rs) (laid 8 (table 1 0 rs) a₀))
-    → a₂ ≡ laid 6920 (table 6 0 rs) (laid 3848 (table 5 0 rs) (laid 776 (table 4 0 rs) a₁))
-    → a₃ ≡ laid 0 (v₁ ∷ v₂ ∷ v₃ ∷ v₄ ∷ v₅ ∷ v₆ ∷ q .count ∷ q .first ∷ []) a₂
-    → v₁ ≡ counted 1 rs → v₂ ≡ counted 2 rs → v₃ ≡ counted 3 rs → v₄ ≡ counted 4 rs → v₅ ≡ counted 5 rs → v₆ ≡ counted 6 rs
-    → q ≡ queriesIn rs → a₃ ≡ schemaTables n rs
-unfolding schemaTables schemaHead queriesIn
-schema-laid rs n a₀ a₁ a₂ a₃ v₁ v₂ v₃ v₄ v₅ v₆ q e₀ e₁ e₂ e₃ p₁ p₂ p₃ p₄ p₅ p₆ p₇ =
-    e₃
-    ∙ ap (λ (x : Queries). laid 0 (v₁ ∷ v₂ ∷ v₃ ∷ v₄ ∷ v₅ ∷ v₆ ∷ x .count ∷ x .first ∷ []) a₂) p₇
-    ∙ cc
+-- cleared, the tables, and the head
+pub schema-laid : (rs : List Row) (n : ℕ) (a₀ a₁ a₂ : List ℕ) (c : SchemaCounts) → a₀ ≡ replicate n 0 → a₁ ≡ schemaLaid rs a₀
+    → a₂ ≡ laid 0 (headOf c) a₁ → c ≡ schemaCountsOf rs → a₂ ≡ schemaTables n rs
+unfolding schemaTables schemaHead headOf schemaCountsOf queriesIn
+schema-laid rs n a₀ a₁ a₂ c e₀ e₁ e₂ e = e₂ ∙ ap (λ (x : SchemaCounts). laid 0 (headOf x) a₁) e ∙ cc

@@ -4,7 +4,6 @@ pub mod Cells
 pub mod Stores
 pub mod Belonging
 pub mod Turns
-pub mod Filling
 pub mod Asking
 pub mod Putting
 pub mod Valuing
@@ -17,3 +16,5 @@ pub mod Labelling
 pub mod Areas
 pub mod Graphs
 pub mod GraphLaying
+pub mod SchemaLaying
+pub mod QueryLaying

@@ -4,8 +4,10 @@ use native.Mathlib.Omega.{arith}
 use mathlib.Core.Path.{_≡_, refl, sym, ap, _∙_, subst}
 use mathlib.Core.Bool.{Bool, true, false, cond}
 use mathlib.Core.List.{List, [], _∷_, _++_}
-use lib.ListN.{length, getD, drop, length-append}
+use lib.ListN.{length, drop, length-append}
+use borrow.Author.Tests.{ne-eqb}
 use Rattle.rules.specs.Text.{Row, row, rows}
+use Rattle.rules.proofs.Clean.{Each}
 use Rattle.text.specs.declared.Row.{Row as Read}
 use Rattle.text.specs.Line.{lineAt}
 use Rattle.text.proofs.Tools.{by-test}
@@ -24,10 +26,18 @@ table-own : (k start : ℕ) (x : Row) (rs : List Row) → table k start (x ∷ r
 unfolding own table
 table-own k start x rs = by-test (belongs k x) (λ e. simp e) (λ e. simp e)
 
+-- only a property says how many values stand before it
+own-before : (k a b : ℕ) (x : Row) → (k ≡ 9 → ⊥) → own k a x ≡ own k b x
+unfolding own cells
+own-before k a b x h = simp (ne-eqb k 9 h)
+
 module _ (x : Row) (n : ℕ) (r : Read) (e : r ≡ whole x n) (k start : ℕ) where
   pub own-read : rowIn k start r ≡ own k start x
   unfolding own rowIn
   own-read = cc (belongs-read x n r e k, cells-read x n r e k start)
+
+  pub own-read-else : (k ≡ 9 → ⊥) → (before : ℕ) → rowIn k start r ≡ own k before x
+  own-read-else h before = own-read ∙ own-before k start before x h
 
   pub own-space : space k (r .letter) ≡ length (own k start x)
   unfolding own space
@@ -186,9 +196,17 @@ module _ {s : List ℕ} {from : List (ℕ × ℕ)} {area₀ : List ℕ} {ts : Li
   order-here : Order (length area) ts start (x ∷ behind)
   order-here = subst (Order (length area) ts start) (t .rest) (f .order)
 
-  -- what a table still takes
-  pub left-space : (k : ℕ) → space k (r .letter) ≤ length (table k start (rows (drop here s)))
-  left-space k = omega (arith, own-space x (r .next) r (t .read) k start, table-long start x behind k, ap (λ (rs : List Row). length (table k start rs)) (t .rest))
+  rooms : (us : List (ℕ × ℕ)) (p n : ℕ) → p ≤ n → Order p us start (x ∷ behind)
+      → Each (λ (u : ℕ × ℕ). u .1 + space (u .0) (r .letter) ≤ n) us
+  rooms [] p n h o = tt
+  rooms ((k, place) ∷ us) p n h o = (
+    omega (arith, o .0, own-space x (r .next) r (t .read) k start, table-long start x behind k),
+    rooms us place n (omega (arith, o .0)) (o .1),
+  )
+
+  -- each table has room for the row
+  pub left-rooms : Each (λ (u : ℕ × ℕ). u .1 + space (u .0) (r .letter) ≤ length area) ts
+  left-rooms = rooms ts (length area) (length area) (omega arith) order-here
 
   pub left-on : {ts′ : List (ℕ × ℕ)} {area′ : List ℕ} {start′ : ℕ} → ts′ ≡ moved ts start x → area′ ≡ puts ts start x area
       → start′ ≡ start + valued x → Left s from area₀ ts′ area′ start′ (r .next)

@@ -4,7 +4,7 @@ use native.Mathlib.Omega.{arith}
 use mathlib.Core.Path.{_≡_, refl, sym, ap, _∙_}
 use mathlib.Core.List.{List, [], _∷_, map}
 use lib.Dec.{eqb}
-use lib.ListN.{length, getD, drop, length-drop}
+use lib.ListN.{length, getD, drop}
 use borrow.Author.Tests.{eq-eqb, ne-eqb, le-leb, lt-leb}
 use Rattle.rules.specs.Text.{Line, lines, fields, onFirstField, tab, isNumber, leading, Row, rowOf, row, rows, at}
 use Rattle.rules.proofs.Clean.{Each}
@@ -13,7 +13,7 @@ use Rattle.text.specs.Line.{lineAt, nextAt, rowAt}
 use Rattle.text.proofs.Tools.{by-test}
 use Rattle.text.proofs.Lines.{lines-here, next-inside, lines-end}
 use Rattle.text.proofs.Rows.{padded-at}
-use Rattle.tables.specs.Layout.{laid, narrow, wide, belongs, cells, width, valued}
+use Rattle.tables.specs.Layout.{laid, narrow, wide, belongs, cells, width}
 use Rattle.tables.specs.Fill.{whole, Plain, lettered, cellsOf, valuesIn}
 use Rattle.tables.proofs.Cells.{narrow-width, wide-width}
 
@@ -99,10 +99,6 @@ lettered-belongs : (k : ℕ) (x : Row) → belongs k (lettered (x .letter)) ≡ 
 unfolding belongs lettered
 lettered-belongs k x = refl
 
-lettered-valued : (x : Row) → valuesIn (x .letter) (length (x .numbers)) (at x 3) ≡ valued x
-unfolding valuesIn valued
-lettered-valued x = simp length-drop
-
 whole-cells : (k start : ℕ) (x : Row) (n : ℕ) → cellsOf k start (whole x n) ≡ cells k start x
 unfolding cellsOf cells whole narrow wide
 whole-cells k start x n = simp (padded-at 12 (x .numbers) 0 (omega arith), padded-at 12 (x .numbers) 1 (omega arith))
@@ -112,7 +108,7 @@ module _ (x : Row) (n : ℕ) (r : Read) (e : r ≡ whole x n) where
   unfolding whole
   letter-read = ap (λ (y : Read). y .letter) e
 
-  pub count-read : r .count ≡ length (x .numbers)
+  count-read : r .count ≡ length (x .numbers)
   unfolding whole
   count-read = ap (λ (y : Read). y .count) e
 
@@ -122,9 +118,6 @@ module _ (x : Row) (n : ℕ) (r : Read) (e : r ≡ whole x n) where
 
   pub belongs-read : (k : ℕ) → belongs k (lettered (r .letter)) ≡ belongs k x
   belongs-read k = ap (λ (l : ℕ). belongs k (lettered l)) letter-read ∙ lettered-belongs k x
-
-  pub valued-read : valuesIn (r .letter) (r .count) (getD (r .nums) 3 0) ≡ valued x
-  valued-read = cc (letter-read, count-read, number-read 3 (omega arith), lettered-valued x)
 
   pub cells-read : (k start : ℕ) → cellsOf k start r ≡ cells k start x
   cells-read k start = ap (cellsOf k start) e ∙ whole-cells k start x n

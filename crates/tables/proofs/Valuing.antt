@@ -4,9 +4,9 @@ use native.Mathlib.Omega.{arith}
 use mathlib.Core.Path.{_≡_, refl, sym, ap, _∙_}
 use mathlib.Core.Bool.{true}
 use mathlib.Core.List.{List, [], _∷_, _++_}
-use lib.ListN.{length, getD, drop, length-append}
+use lib.ListN.{length, getD, drop, length-append, length-drop}
 use borrow.Author.Tests.{eq-eqb, ne-eqb}
-use Rattle.rules.specs.Text.{lines, Row, row, rows, P}
+use Rattle.rules.specs.Text.{lines, Row, row, rows, at, P}
 use Rattle.rules.specs.Schema.{is}
 use Rattle.rules.proofs.Clean.{Each}
 use Rattle.text.specs.declared.Row.{Row as Read}
@@ -16,7 +16,6 @@ use Rattle.tables.specs.Layout.{laid, valued, allValues}
 use Rattle.tables.specs.Fill.{whole, Plain, ownValues}
 use Rattle.tables.proofs.Laid.{laid-nil, laid-length, laid-append}
 use Rattle.tables.proofs.Turns.{Turn, rows-end, letter-read, number-read}
-use Rattle.tables.proofs.Filling.{valued-most}
 
 -- the values up to `here` are laid, up to `place`
 pub record Valued (s : List ℕ) (base : ℕ) (area₀ area : List ℕ) (place here : ℕ) : Type 0 where
@@ -51,6 +50,14 @@ own-values x rs = by-test (is P x) (λ e. simp e) (λ e. simp e)
 pub own-valued : (x : Row) → length (ownValues x) ≡ valued x
 unfolding ownValues valued
 own-valued x = by-test (is P x) (λ e. simp e) (λ e. simp e)
+
+-- no more than it has numbers
+valued-most : (x : Row) → valued x ≤ length (x .numbers)
+unfolding valued
+valued-most x =
+    by-test (is P x)
+    (λ e. simp e (omega (arith, length-drop (4 + 2 * at x 3) (x .numbers))))
+    (λ e. simp e (omega arith))
 
 -- ---- the values of a row that was read
 

@@ -13,6 +13,7 @@ use Rattle.text.specs.declared.Row.{Row as Read}
 use Rattle.tables.specs.Layout.{belongs, width, counted, allValues}
 use Rattle.tables.specs.declared.GraphCounts.{GraphCounts}
 use Rattle.tables.specs.declared.Queries.{Queries}
+use Rattle.tables.specs.declared.SchemaCounts.{SchemaCounts}
 
 -- a row as the reader hands it on, where the next line starts at n
 unfoldable pub whole : Row → ℕ → Read
@@ -50,13 +51,38 @@ unfoldable pub ownValues : Row → List ℕ
 ownValues r = cond (is P r) (valuesOf r) []
 
 -- how many nodes, edges, properties and values a graph has
-unfoldable pub countsOf : List Row → GraphCounts
-countsOf rs =
+unfoldable pub graphCountsOf : List Row → GraphCounts
+graphCountsOf rs =
     record { nodes = counted 7 rs; edges = counted 8 rs; properties = counted 9 rs; values = length (allValues rs) }
 
 -- the Q records: how many there are, and the type that the first names
 unfoldable pub queriesIn : List Row → Queries
 queriesIn rs = record { count = length (those (is Q) rs); first = at (nth (is Q) rs 0) 0 }
+
+-- and with a row more, from its letter and its first number
+unfoldable pub askedWith : Queries → ℕ → ℕ → Queries
+askedWith q letter first =
+    cond (eqb letter Q)
+    (cond (eqb (q .count) 0) (record { count = 1; first = first }) (record { count = q .count + 1; first = q .first }))
+    q
+
+-- how many rows each table of a schema has, and its Q records
+unfoldable pub schemaCountsOf : List Row → SchemaCounts
+schemaCountsOf rs =
+    record {
+      types = counted 1 rs;
+      fields = counted 2 rs;
+      args = counted 3 rs;
+      has = counted 4 rs;
+      takes = counted 5 rs;
+      members = counted 6 rs;
+      queries = queriesIn rs;
+    }
+
+-- the head of the schema's area
+unfoldable pub headOf : SchemaCounts → List ℕ
+headOf c =
+    c .types ∷ c .fields ∷ c .args ∷ c .has ∷ c .takes ∷ c .members ∷ c .queries .count ∷ c .queries .first ∷ []
 
 -- no maximum is passed (checks 11 and 21)
 pub record SchemaFits (rs : List Row) : Type 0 where

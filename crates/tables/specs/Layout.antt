@@ -77,15 +77,18 @@ schemaHead rs =
     ∷ at (nth (is Q) rs 0) 0
     ∷ []
 
-unfoldable pub schemaTables : ℕ → List Row → List ℕ
-schemaTables n rs =
-    laid 0 (schemaHead rs)
-    (laid 6920 (table 6 0 rs)
+-- the tables, laid over an area; and with the head, over zeros
+abbrev pub schemaLaid : List Row → List ℕ → List ℕ
+schemaLaid rs area =
+    laid 6920 (table 6 0 rs)
     (laid 3848 (table 5 0 rs)
     (laid 776 (table 4 0 rs)
     (laid 584 (table 3 0 rs)
     (laid 200 (table 2 0 rs)
-    (laid 8 (table 1 0 rs) (replicate n 0)))))))
+    (laid 8 (table 1 0 rs) area)))))
+
+unfoldable pub schemaTables : ℕ → List Row → List ℕ
+schemaTables n rs = laid 0 (schemaHead rs) (schemaLaid rs (replicate n 0))
 
 -- nodes from 8, edges from 1544, to 15880
 unfoldable pub nodeArea : ℕ → List Row → List ℕ

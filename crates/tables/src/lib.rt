@@ -7,9 +7,9 @@ ghost use Rattle.rules.specs.Text.{rows, row, lines};
 ghost use Rattle.rules.specs.Schema.{isType};
 ghost use Rattle.rules.proofs.Clean.{Each};
 ghost use Rattle.text.specs.Line.{lineAt, rowAt};
-ghost use Rattle.tables.specs.Layout.{laid, belongs, width, table, counted, allValues, schemaTables, nodeArea, propertyArea, valueArea, queryArea};
+ghost use Rattle.tables.specs.Layout.{laid, belongs, width, table, counted, allValues, schemaLaid, schemaTables, nodeArea, propertyArea, valueArea, queryArea};
 ghost use Rattle.tables.specs.Read.{cell};
-ghost use Rattle.tables.specs.Fill.{Plain, lettered, cellsOf, rowIn, space, valuesIn, ownValues, countsOf, queriesIn, SchemaFits, GraphFits};
+ghost use Rattle.tables.specs.Fill.{Plain, lettered, cellsOf, rowIn, space, valuesIn, ownValues, graphCountsOf, askedWith, schemaCountsOf, headOf, SchemaFits, GraphFits};
 
 // Zeroes a whole area.
 pub fn clear(area: &mut [u32])
@@ -151,32 +151,6 @@ fn put_in(k: u32, area: &mut [u32], place: usize, start: u32, r: text::Row) -> u
     place
 }
 
-// Lays table k of an accepted text over an area from a place on, and says how many rows it has.
-fn fill(k: u32, s: &[u8], area: &mut [u32], base: usize) -> u32
-    requires { ⌜ length (now s) ≤ 65535 ⌝ }
-    requires { ⌜ Each Plain (lines (now s)) ⌝ }
-    requires { ⌜ base + length (table k 0 (rows (now s))) ≤ length (now area) ⌝ }
-    ensures { λ r. ⌜ r ≡ counted k (rows (now (s .entry))) ⌝ }
-    ensures { λ _. ⌜ now (area .exit) ≡ laid base (table k 0 (rows (now (s .entry)))) (now (area .entry)) ⌝ }
-{
-    let mut n: u32 = 0;
-    let mut start: u32 = 0;
-    let mut place = base;
-    let mut at: usize = 0;
-    while at < s.len() {
-        let r = text::read_row(s, at);
-        let nums = r.nums;
-        let before = start;
-        start += values_in(r.letter, r.count, nums[3]) as u32;
-        at = r.next;
-        if belongs_to(k, r.letter) {
-            place = put_row(area, place, k, before, r);
-            n += 1;
-        }
-    }
-    n
-}
-
 // Lays the numbers of the line at `at`, without the first `skip`, over an area from a place on, and says where the next go.
 fn put_numbers(s: &[u8], at: usize, skip: usize, area: &mut [u32], base: usize) -> usize
     requires { ⌜ at < length (now s) ⌝ }
@@ -238,7 +212,7 @@ fn fill_graph(s: &[u8], g: &mut [u32], p: &mut [u32], v: &mut [u32]) -> GraphCou
     requires { ⌜ 15880 ≤ length (now g) ⌝ }
     requires { ⌜ 14344 ≤ length (now p) ⌝ }
     requires { ⌜ 8200 ≤ length (now v) ⌝ }
-    ensures { λ r. ⌜ r ≡ countsOf (rows (now (s .entry))) ⌝ }
+    ensures { λ r. ⌜ r ≡ graphCountsOf (rows (now (s .entry))) ⌝ }
     ensures { λ _. ⌜ now (g .exit) ≡ laid 1544 (table 8 0 (rows (now (s .entry)))) (laid 8 (table 7 0 (rows (now (s .entry)))) (now (g .entry))) ⌝ }
     ensures { λ _. ⌜ now (p .exit) ≡ laid 8 (table 9 0 (rows (now (s .entry)))) (now (p .entry)) ⌝ }
     ensures { λ _. ⌜ now (v .exit) ≡ laid 8 (allValues (rows (now (s .entry)))) (now (v .entry)) ⌝ }
@@ -271,79 +245,90 @@ struct Queries {
     first: u32,
 }
 
-// Counts the Q records of an accepted schema.
-fn count_queries(s: &[u8]) -> Queries
+// The Q records with a row more, of which its letter and its first number count.
+fn ask(q: Queries, letter: u8, first: u32) -> Queries
+    requires { ⌜ q .count < 100000 ⌝ }
+    ensures { λ r. ⌜ r ≡ askedWith q letter first ⌝ }
+{
+    if letter != b'Q' {
+        return q;
+    }
+    if q.count == 0 {
+        return Queries { count: 1, first };
+    }
+    Queries {
+        count: q.count + 1,
+        first: q.first,
+    }
+}
+
+// How many rows each table of a schema has, and its Q records.
+struct SchemaCounts {
+    types: u32,
+    fields: u32,
+    args: u32,
+    has: u32,
+    takes: u32,
+    members: u32,
+    queries: Queries,
+}
+
+// Lays the six tables of an accepted schema over an area, in one reading of its text, and says how many rows each has.
+fn fill_schema(s: &[u8], area: &mut [u32]) -> SchemaCounts
     requires { ⌜ length (now s) ≤ 65535 ⌝ }
     requires { ⌜ Each Plain (lines (now s)) ⌝ }
-    ensures { λ r. ⌜ r ≡ queriesIn (rows (now (s .entry))) ⌝ }
+    requires { ⌜ SchemaFits (rows (now s)) ⌝ }
+    requires { ⌜ 9992 ≤ length (now area) ⌝ }
+    ensures { λ r. ⌜ r ≡ schemaCountsOf (rows (now (s .entry))) ⌝ }
+    ensures { λ _. ⌜ now (area .exit) ≡ schemaLaid (rows (now (s .entry))) (now (area .entry)) ⌝ }
 {
-    let mut count: u32 = 0;
-    let mut first: u32 = 0;
+    let mut types: usize = 8;
+    let mut fields: usize = 200;
+    let mut args: usize = 584;
+    let mut has: usize = 776;
+    let mut takes: usize = 3848;
+    let mut members: usize = 6920;
+    let mut queries = Queries { count: 0, first: 0 };
     let mut at: usize = 0;
     while at < s.len() {
         let r = text::read_row(s, at);
+        let nums = r.nums;
+        types = put_in(1, area, types, 0, r);
+        fields = put_in(2, area, fields, 0, r);
+        args = put_in(3, area, args, 0, r);
+        has = put_in(4, area, has, 0, r);
+        takes = put_in(5, area, takes, 0, r);
+        members = put_in(6, area, members, 0, r);
+        queries = ask(queries, r.letter, nums[0]);
         at = r.next;
-        if r.letter == b'Q' {
-            if count == 0 {
-                let nums = r.nums;
-                first = nums[0];
-                count = 1;
-            } else {
-                count += 1;
-            }
-        }
     }
-    Queries { count, first }
-}
-
-// How many rows each of three tables has.
-struct Three {
-    first: u32,
-    second: u32,
-    third: u32,
-}
-
-// Lays the tables k, k + 1 and k + 2 of an accepted text over an area, each from a place of its own on.
-fn fill_three(k: u32, s: &[u8], area: &mut [u32], x: usize, y: usize, z: usize) -> Three
-    requires { ⌜ k ≤ 5 ⌝ }
-    requires { ⌜ length (now s) ≤ 65535 ⌝ }
-    requires { ⌜ Each Plain (lines (now s)) ⌝ }
-    requires { ⌜ x + length (table k 0 (rows (now s))) ≤ length (now area) ⌝ }
-    requires { ⌜ y + length (table (k + 1) 0 (rows (now s))) ≤ length (now area) ⌝ }
-    requires { ⌜ z + length (table (k + 2) 0 (rows (now s))) ≤ length (now area) ⌝ }
-    ensures { λ r. ⌜ r .first ≡ counted k (rows (now (s .entry))) ⌝ }
-    ensures { λ r. ⌜ r .second ≡ counted (k + 1) (rows (now (s .entry))) ⌝ }
-    ensures { λ r. ⌜ r .third ≡ counted (k + 2) (rows (now (s .entry))) ⌝ }
-    ensures { λ _. ⌜ now (area .exit) ≡ laid z (table (k + 2) 0 (rows (now (s .entry))))
-        (laid y (table (k + 1) 0 (rows (now (s .entry)))) (laid x (table k 0 (rows (now (s .entry)))) (now (area .entry)))) ⌝ }
-{
-    let first = fill(k, s, area, x);
-    let second = fill(k + 1, s, area, y);
-    let third = fill(k + 2, s, area, z);
-    Three {
-        first,
-        second,
-        third,
+    SchemaCounts {
+        types: ((types - 8) / 3) as u32,
+        fields: ((fields - 200) / 3) as u32,
+        args: ((args - 584) / 3) as u32,
+        has: ((has - 776) / 3) as u32,
+        takes: ((takes - 3848) / 3) as u32,
+        members: ((members - 6920) / 3) as u32,
+        queries,
     }
 }
 
 // Lays the head of the schema's area.
-fn put_head(area: &mut [u32], x: Three, y: Three, q: Queries)
+fn put_head(area: &mut [u32], c: SchemaCounts)
     requires { ⌜ 8 ≤ length (now area) ⌝ }
-    ensures { λ _. ⌜ now (area .exit) ≡ laid 0 (x .first ∷ x .second ∷ x .third ∷ y .first ∷ y .second ∷ y .third ∷ q .count ∷ q .first ∷ [])
-        (now (area .entry)) ⌝ }
+    ensures { λ _. ⌜ now (area .exit) ≡ laid 0 (headOf c) (now (area .entry)) ⌝ }
 {
-    area[0] = x.first;
-    area[1] = x.second;
-    area[2] = x.third;
-    area[3] = y.first;
-    area[4] = y.second;
-    area[5] = y.third;
-    area[6] = q.count;
-    area[7] = q.first;
+    area[0] = c.types;
+    area[1] = c.fields;
+    area[2] = c.args;
+    area[3] = c.has;
+    area[4] = c.takes;
+    area[5] = c.members;
+    area[6] = c.queries.count;
+    area[7] = c.queries.first;
 }
 
-// Lays the tables of an accepted schema out.
+// Lays the tables of an accepted schema out, in one reading of its text.
 pub fn lay_schema(s: &[u8], area: &mut [u32])
     requires { ⌜ length (now s) ≤ 65535 ⌝ }
     requires { ⌜ Each Plain (lines (now s)) ⌝ }
@@ -352,10 +337,8 @@ pub fn lay_schema(s: &[u8], area: &mut [u32])
     ensures { λ _. ⌜ now (area .exit) ≡ schemaTables (length (now (area .entry))) (rows (now (s .entry))) ⌝ }
 {
     clear(area);
-    let things = fill_three(1, s, area, 8, 200, 584);
-    let relations = fill_three(4, s, area, 776, 3848, 6920);
-    let q = count_queries(s);
-    put_head(area, things, relations, q);
+    let c = fill_schema(s, area);
+    put_head(area, c);
 }
 
 // Lays the nodes and edges, the properties and their values of an accepted graph out, in one reading of its text.
@@ -380,6 +363,25 @@ pub fn lay_graph(s: &[u8], g: &mut [u32], p: &mut [u32], v: &mut [u32])
     v[0] = c.values;
 }
 
+// Lays the entries of an accepted query over an area, and says how many there are.
+fn fill_query(s: &[u8], area: &mut [u32]) -> u32
+    requires { ⌜ length (now s) ≤ 65535 ⌝ }
+    requires { ⌜ Each Plain (lines (now s)) ⌝ }
+    requires { ⌜ length (rows (now s)) ≤ 256 ⌝ }
+    requires { ⌜ 3592 ≤ length (now area) ⌝ }
+    ensures { λ r. ⌜ r ≡ counted 10 (rows (now (s .entry))) ⌝ }
+    ensures { λ _. ⌜ now (area .exit) ≡ laid 8 (table 10 0 (rows (now (s .entry)))) (now (area .entry)) ⌝ }
+{
+    let mut place: usize = 8;
+    let mut at: usize = 0;
+    while at < s.len() {
+        let r = text::read_row(s, at);
+        place = put_in(10, area, place, 0, r);
+        at = r.next;
+    }
+    ((place - 8) / 14) as u32
+}
+
 // Lays an accepted query of at most 256 entries out.
 pub fn lay_query(s: &[u8], area: &mut [u32])
     requires { ⌜ length (now s) ≤ 65535 ⌝ }
@@ -389,6 +391,6 @@ pub fn lay_query(s: &[u8], area: &mut [u32])
     ensures { λ _. ⌜ now (area .exit) ≡ queryArea (length (now (area .entry))) (rows (now (s .entry))) ⌝ }
 {
     clear(area);
-    let entries = fill(10, s, area, 8);
+    let entries = fill_query(s, area);
     area[0] = entries;
 }

@@ -7,7 +7,8 @@ use lib.ListN.{length}
 use Rattle.rules.specs.Text.{rows}
 use Rattle.tables.specs.Fill.{GraphFits}
 use Rattle.tables.proofs.Turns.{Turn, turn, turned-few}
-use Rattle.tables.proofs.GraphLaying.{GraphLeft, graph-start, node-space, edge-space, property-space, graph-on}
+use Rattle.tables.proofs.Together.{left-rooms}
+use Rattle.tables.proofs.GraphLaying.{GraphLeft, graph-start, graph-on}
 use Rattle.tables.proofs.GraphLaying.{nodes-end, edges-end, properties-end, nodes-all, properties-all, counts-end}
 use Rattle.tables.proofs.Valuing.{valued-room, valued-all}
 use Rattle.tables.proofs.fill_graph.Statement.{statement}
@@ -64,18 +65,18 @@ cast-start c =
     omega (arith, f .under, f .inside, start (loop c) .pre .0)
 
 put-in-requires : tie.Need-put-in-requires Inv-loop μ-loop
-put-in-requires c κs = (node-space (loop (c .before) .loop .inv) (turned (c .before)), few (c .before))
+put-in-requires c κs = (left-rooms (loop (c .before) .loop .inv .nodesLeft) (turned (c .before)) .1 .0, few (c .before))
 
 put-in-requires-2 : tie.Need-put-in-requires-2 Inv-loop μ-loop
 put-in-requires-2 c κs =
     let put = c .before .before .before in
     let r = read put in
-    (omega (arith, edge-space (loop r .loop .inv) (turned r), put .put-in .kept .1 .0), few r)
+    (omega (arith, left-rooms (loop r .loop .inv .nodesLeft) (turned r) .0, put .put-in .kept .1 .0), few r)
 
 put-in-requires-3 : tie.Need-put-in-requires-3 Inv-loop μ-loop
 put-in-requires-3 c κs =
     let r = read (node-put (c .before .before .before)) in
-    (property-space (loop r .loop .inv) (turned r), few r)
+    (left-rooms (loop r .loop .inv .propertiesLeft) (turned r) .0, few r)
 
 put-values-requires : tie.Need-put-values-requires Inv-loop μ-loop
 put-values-requires c κs =

@@ -1,9 +1,9 @@
 -- `tables::lay_graph` meets its contract. Assumes nothing.
 use Prim.Native.Nat.{_≤_}
 use native.Mathlib.Omega.{arith}
-use mathlib.Core.Path.{_≡_, ap, _∙_}
+use mathlib.Core.Path.{ap, _∙_}
 use lib.ListN.{length, length-set}
-use Rattle.tables.specs.Fill.{countsOf}
+use Rattle.tables.specs.Fill.{graphCountsOf}
 use Rattle.tables.specs.declared.GraphCounts.{GraphCounts}
 use Rattle.tables.proofs.Laying.{node-laid, property-laid, value-laid}
 use borrow.Author.Needs.{needs}
@@ -55,17 +55,27 @@ fill-graph-requires c κs =
       ),
     )
 
--- the first area has room for its head
-long : (c : tie.After-fill-graph) → 2 ≤ length (c .fill-graph .last .1 .0)
-long c =
+-- each area has room for its head
+node-long : (c : tie.After-fill-graph) → 2 ≤ length (c .fill-graph .last .1 .0)
+node-long c =
     let g = nodes-cleared (properties-cleared (cleared (c .before))) in
     omega (arith, c .fill-graph .kept .1 .0, g .clear .kept .0, start g .pre .1 .1 .1 .0)
+
+property-long : (c : tie.After-fill-graph) → 1 ≤ length (c .fill-graph .last .1 .1 .0)
+property-long c =
+    let p = properties-cleared (cleared (c .before)) in
+    omega (arith, c .fill-graph .kept .1 .1 .0, p .clear2 .kept .0, start (nodes-cleared p) .pre .1 .1 .1 .1 .0)
+
+value-long : (c : tie.After-fill-graph) → 1 ≤ length (c .fill-graph .last .1 .1 .1 .0)
+value-long c =
+    let v = cleared (c .before) in
+    omega (arith, c .fill-graph .kept .1 .1 .1 .0, v .clear3 .kept .0, start (nodes-cleared (properties-cleared v)) .pre .1 .1 .1 .1 .1)
 
 slice-write-g : tie.Need-slice-write-g
 slice-write-g c = search needs
 
 slice-write-g-2 : tie.Need-slice-write-g-2
-slice-write-g-2 c = simp length-set (omega (arith, long (filled c)))
+slice-write-g-2 c = simp length-set (omega (arith, node-long (filled c)))
 
 slice-write-p : tie.Need-slice-write-p
 slice-write-p c = search needs
@@ -92,21 +102,19 @@ same-length-3 c =
     simp length-set (f .fill-graph .kept .1 .1 .1 .0 ∙ v .clear3 .kept .0)
 
 returns : tie.Need-returns
-unfolding countsOf
+unfolding graphCountsOf
 returns c =
     let f = filled c in
     let v = cleared (f .before) in
     let p = properties-cleared v in
     let g = nodes-cleared p in
-    let asked = start g .pre in
-    let fits = asked .1 .1 .0 in
-    let room = asked .1 .1 .1 in
     let counts = f .fill-graph .ensures .0 in
     let areas = f .fill-graph .ensures .1 in (
-      node-laid _ _ _ _ _ _ (long f) (g .clear .ensures) (areas .0) (ap (λ (x : GraphCounts). x .nodes) counts) (ap (λ (x : GraphCounts). x .edges) counts),
+      node-laid _ _ _ _ (g .clear .ensures) _ _ (node-long f) (areas .0) (ap (λ (x : GraphCounts). x .nodes) counts)
+          (ap (λ (x : GraphCounts). x .edges) counts),
       (
-        property-laid _ _ fits (room .1 .0) _ (p .clear2 .ensures) _ _ (areas .1 .0) (ap (λ (x : GraphCounts). x .properties) counts),
-        value-laid _ _ fits (room .1 .1) _ (v .clear3 .ensures) _ _ (areas .1 .1) (ap (λ (x : GraphCounts). x .values) counts),
+        property-laid _ _ _ _ (p .clear2 .ensures) _ (property-long f) (areas .1 .0) (ap (λ (x : GraphCounts). x .properties) counts),
+        value-laid _ _ _ _ (v .clear3 .ensures) _ (value-long f) (areas .1 .1) (ap (λ (x : GraphCounts). x .values) counts),
       ),
     )
 

@@ -1,6 +1,7 @@
 -- `tables::put_head` meets its contract. Assumes nothing.
 use native.Mathlib.Omega.{arith}
 use lib.ListN.{length-set}
+use Rattle.tables.specs.Fill.{headOf}
 use Rattle.tables.proofs.Stores.{head-stored}
 use borrow.Author.Needs.{needs}
 use Rattle.tables.proofs.put_head.Statement.{statement}
@@ -34,6 +35,7 @@ same-length : tie.Need-same-length
 same-length c = search needs
 
 returns : tie.Need-returns
+unfolding headOf
 returns c = head-stored _ _ (c .pre)
 
 pub put-head-spec : {M : Type 1} → statement M

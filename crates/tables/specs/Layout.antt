@@ -77,6 +77,7 @@ schemaHead rs =
     ∷ at (nth (is Q) rs 0) 0
     ∷ []
 
+-- its tables, laid over an area
 abbrev pub schemaLaid : List Row → List ℕ → List ℕ
 schemaLaid rs area =
     laid 6920 (table 6 0 rs)

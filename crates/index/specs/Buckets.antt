@@ -20,11 +20,20 @@ buckets k rs = map (λ r. at r 0 % 512) (those (belongs k) rs)
 unfoldable pub bucketAt : List ℕ → ℕ → ℕ → ℕ
 bucketAt a base j = cell a (base + 3 * j + 1) % 512
 
--- the links of H from 9992, of G from 11528, of M from 13064, to 14600
+-- where the links of H, of G and of M stand in the schema's area; they end at 14600
+abbrev pub hasFrom : ℕ
+hasFrom = 9992
+
+abbrev pub takesFrom : ℕ
+takesFrom = 11528
+
+abbrev pub membersFrom : ℕ
+membersFrom = 13064
+
 unfoldable pub schemaArea : ℕ → List Row → List ℕ
 schemaArea n rs =
-    laid 13064 (links 1536 (buckets 6 rs))
-    (laid 11528 (links 1536 (buckets 5 rs)) (laid 9992 (links 1536 (buckets 4 rs)) (schemaTables n rs)))
+    laid membersFrom (links 1536 (buckets 6 rs))
+    (laid takesFrom (links 1536 (buckets 5 rs)) (laid hasFrom (links 1536 (buckets 4 rs)) (schemaTables n rs)))
 
 -- A narrow table of n rows from `base` on, and behind it, from `at` on, room for its links.
 pub record Linkable (a : List ℕ) (base n at : ℕ) : Type 0 where

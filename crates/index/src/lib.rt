@@ -12,6 +12,13 @@ ghost use Rattle.tables.specs.Fill.{Plain, SchemaFits};
 ghost use Rattle.index.specs.Index.{ledTo, keys, Rowed, Blank, rowLinked, LinksLaid, sourcesAt, indexAt};
 ghost use Rattle.index.specs.Buckets.{bucketAt, schemaArea, Linkable};
 
+// Where the links of `H`, of `G` and of `M` stand in the schema's area.
+pub const HAS_LINKS: usize = 9992;
+
+pub const TAKES_LINKS: usize = 11528;
+
+pub const MEMBER_LINKS: usize = 13064;
+
 // The row that a link leads to, n where it leads to none.
 fn led_to(n: usize, link: u32) -> usize
     ensures { λ r. ⌜ r ≡ ledTo n link ⌝ }
@@ -108,7 +115,7 @@ pub fn lay_schema(s: &[u8], a: &mut [u32])
     let has = a[3] as usize;
     let takes = a[4] as usize;
     let members = a[5] as usize;
-    lay_buckets(a, 776, has, 9992);
-    lay_buckets(a, 3848, takes, 11528);
-    lay_buckets(a, 6920, members, 13064);
+    lay_buckets(a, 776, has, HAS_LINKS);
+    lay_buckets(a, 3848, takes, TAKES_LINKS);
+    lay_buckets(a, 6920, members, MEMBER_LINKS);
 }

@@ -5,7 +5,7 @@ use mathlib.Core.List.{List}
 use lib.ListN.{length}
 use Rattle.tables.specs.Read.{cell}
 use Rattle.index.specs.Index.{Chained}
-use Rattle.index.specs.Buckets.{bucketAt}
+use Rattle.index.specs.Buckets.{bucketAt, hasFrom, takesFrom, membersFrom}
 
 -- The rows of a table from `base` on, as many as stand at `head`, are linked by their buckets from `at` on. A sealed name, so that a search
 -- through what is known of an area does not enter the links.
@@ -20,6 +20,6 @@ pub record SchemaHeld (a : List ℕ) : Type 0 where
   pub has : cell a 3 ≤ 1024
   pub takes : cell a 4 ≤ 1024
   pub members : cell a 5 ≤ 1024
-  pub hasLinks : Bucketed a 3 776 9992
-  pub takesLinks : Bucketed a 4 3848 11528
-  pub memberLinks : Bucketed a 5 6920 13064
+  pub hasLinks : Bucketed a 3 776 hasFrom
+  pub takesLinks : Bucketed a 4 3848 takesFrom
+  pub memberLinks : Bucketed a 5 6920 membersFrom

@@ -203,7 +203,7 @@ pub fn has_field(a: &[u32], t: TypeNo, f: FieldNo) -> bool
     requires { ⌜ SchemaHeld (now a) ⌝ }
     ensures { λ r. ⌜ r ≡ hasField (schemaAt (now (a .entry))) t f ⌝ }
 {
-    pair_along(a, 776, 9992, a[3], t.0, f.0)
+    pair_along(a, 776, index::HAS_LINKS, a[3], t.0, f.0)
 }
 
 // Whether field f takes the argument x (G).
@@ -211,7 +211,7 @@ pub fn takes_arg(a: &[u32], f: FieldNo, x: ArgNo) -> bool
     requires { ⌜ SchemaHeld (now a) ⌝ }
     ensures { λ r. ⌜ r ≡ takesArg (schemaAt (now (a .entry))) f x ⌝ }
 {
-    pair_along(a, 3848, 11528, a[4], f.0, x.0)
+    pair_along(a, 3848, index::TAKES_LINKS, a[4], f.0, x.0)
 }
 
 // Whether the object type o is compatible with t.
@@ -222,7 +222,7 @@ pub fn is_compatible(a: &[u32], o: TypeNo, t: TypeNo) -> bool
     if o.0 == t.0 {
         return true;
     }
-    pair_along(a, 6920, 13064, a[5], t.0, o.0)
+    pair_along(a, 6920, index::MEMBER_LINKS, a[5], t.0, o.0)
 }
 
 // The type of the query node (Q).
@@ -239,14 +239,14 @@ fn lacks_field(a: &[u32], t: TypeNo, o: TypeNo) -> bool
     ensures { λ r. ⌜ r ≡ lacks (now (a .entry)) t o ⌝ }
 {
     let end = a[3] as usize;
-    let mut j = index::first_row(a, 9992, end, t.0 % 512);
+    let mut j = index::first_row(a, index::HAS_LINKS, end, t.0 % 512);
     while j < end {
         if tables::row_cell(a, 776, 3, j, 1) == t.0 {
             if !has_field(a, o, FieldNo(tables::row_cell(a, 776, 3, j, 2))) {
                 return true;
             }
         }
-        j = index::next_row(a, 9992, end, j);
+        j = index::next_row(a, index::HAS_LINKS, end, j);
     }
     false
 }

@@ -16,7 +16,7 @@ use Rattle.rules.specs.Query.{check31}
 use Rattle.rules.proofs.Clean.{Each}
 use Rattle.text.specs.declared.Row.{Row as Read}
 use Rattle.tables.specs.Layout.{belongs, nodeArea, propertyArea, valueArea}
-use Rattle.index.specs.Buckets.{schemaArea}
+use Rattle.index.specs.Buckets.{schemaArea, hasFrom, takesFrom, membersFrom}
 use Rattle.tables.specs.Fill.{lettered, valuesIn, SchemaFits, GraphFits}
 use Rattle.tables.specs.Read.{cell, schemaAt, graphAt, pairAt, valuesAt}
 use Rattle.tables.proofs.Graphs.{Formed}
@@ -145,7 +145,7 @@ unfoldable pub pairRows : List ℕ → ℕ → ℕ
 pairRows a l = cell a (cond (eqb l H) 3 (cond (eqb l G) 4 5))
 
 unfoldable pub pairLinks : ℕ → ℕ
-pairLinks l = cond (eqb l H) 9992 (cond (eqb l G) 11528 13064)
+pairLinks l = cond (eqb l H) hasFrom (cond (eqb l G) takesFrom membersFrom)
 
 -- Of a pair with the first number x: the earlier pair that it is held against first, and the one behind the j-th, along the chain of x.
 unfoldable pub pairFirst : List ℕ → ℕ → ℕ → ℕ

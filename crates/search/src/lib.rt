@@ -345,12 +345,12 @@ fn first_pair(a: &[u32], letter: u8, x: u32) -> usize
     ensures { λ j. ⌜ j ≡ pairFirst (now (a .entry)) letter x ⌝ }
 {
     if letter == b'H' {
-        return index::first_row(a, 9992, a[3] as usize, x % 512);
+        return index::first_row(a, index::HAS_LINKS, a[3] as usize, x % 512);
     }
     if letter == b'G' {
-        return index::first_row(a, 11528, a[4] as usize, x % 512);
+        return index::first_row(a, index::TAKES_LINKS, a[4] as usize, x % 512);
     }
-    index::first_row(a, 13064, a[5] as usize, x % 512)
+    index::first_row(a, index::MEMBER_LINKS, a[5] as usize, x % 512)
 }
 
 // The earlier pair that a pair with this letter is held against behind the j-th.
@@ -360,12 +360,12 @@ fn next_pair(a: &[u32], letter: u8, j: usize) -> usize
     ensures { λ k. ⌜ k ≡ pairNext (now (a .entry)) letter j ⌝ }
 {
     if letter == b'H' {
-        return index::next_row(a, 9992, a[3] as usize, j);
+        return index::next_row(a, index::HAS_LINKS, a[3] as usize, j);
     }
     if letter == b'G' {
-        return index::next_row(a, 11528, a[4] as usize, j);
+        return index::next_row(a, index::TAKES_LINKS, a[4] as usize, j);
     }
-    index::next_row(a, 13064, a[5] as usize, j)
+    index::next_row(a, index::MEMBER_LINKS, a[5] as usize, j)
 }
 
 // The earlier line that a line is held against first.

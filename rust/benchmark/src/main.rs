@@ -14,6 +14,9 @@ use inputs::{worst_sizing, Input};
 use measure::{cost, Cost};
 use python::Measured;
 
+/// How often all is measured, some time apart: a machine that is slow for seconds does not decide a figure.
+const PASSES: usize = 4;
+
 fn main() {
     let words: Vec<String> = std::env::args().skip(1).collect();
     if let [flag, name] = &words[..] {
@@ -21,7 +24,10 @@ fn main() {
         return profile(name);
     }
     let inputs = inputs::all();
-    let costs: Vec<Cost> = inputs.iter().map(cost).collect();
+    let mut costs: Vec<Cost> = inputs.iter().map(cost).collect();
+    for _ in 1..PASSES {
+        costs.iter_mut().zip(&inputs).for_each(|(known, input)| known.lower_to(&cost(input)));
+    }
     let accepted: Vec<&Input> =
         inputs.iter().zip(&costs).filter(|(_, cost)| cost.sized.number == 0).map(|(input, _)| input).collect();
     let others = python::measure(&accepted);
@@ -108,10 +114,15 @@ fn print_growth() {
     let nodes = [64, 128, 256, 512].map(|nodes| (17, nodes, 1_024));
     let edges = [128, 256, 512, 1_024].map(|edges| (17, 64, edges));
     for (what, steps) in [("entries", entries), ("nodes", nodes), ("edges", edges)] {
+        let inputs = steps.map(|(chains, nodes, edges)| worst_sizing(what, chains, nodes, edges));
+        let mut times = [[f64::INFINITY; 2]; 4];
+        for _ in 0..PASSES {
+            for (known, input) in times.iter_mut().zip(&inputs) {
+                *known = [known[0].min(measure::library_size(input)), known[1].min(measure::independent_size(input))];
+            }
+        }
         let mut before: Option<[f64; 2]> = None;
-        for (chains, nodes, edges) in steps {
-            let input = worst_sizing(what, chains, nodes, edges);
-            let now = [measure::library_size(&input), measure::independent_size(&input)];
+        for ((chains, nodes, edges), now) in steps.into_iter().zip(times) {
             let factor = |which: usize| before.map_or("".into(), |before| ratio(now[which], before[which]));
             let counts = format!("{} | {nodes} | {edges}", 1 + 15 * chains);
             println!("| {what} | {counts} | {} | {} | {} | {} |", time(now[0]), factor(0), time(now[1]), factor(1));

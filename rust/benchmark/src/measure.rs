@@ -18,6 +18,16 @@ pub struct Cost {
     pub independent_answer: f64,
 }
 
+impl Cost {
+    /// Takes the lower of each two times.
+    pub fn lower_to(&mut self, other: &Cost) {
+        self.library_size = self.library_size.min(other.library_size);
+        self.library_answer = self.library_answer.min(other.library_answer);
+        self.independent_size = self.independent_size.min(other.independent_size);
+        self.independent_answer = self.independent_answer.min(other.independent_answer);
+    }
+}
+
 /// Seconds of one call: the best of eight rounds, each of as many calls as take a twentieth of a second at least.
 fn seconds(mut call: impl FnMut()) -> f64 {
     let mut calls = 1;

@@ -74,7 +74,7 @@ enum sodgravel_number {
 
 /* The needed length of each work area, in elements. A longer one will do. */
 enum sodgravel_needed {
-    SODGRAVEL_SCHEMA_AREA = 14600,     /* uint32_t: the schema */
+    SODGRAVEL_SCHEMA_AREA = 14728,     /* uint32_t: the schema */
     SODGRAVEL_NODES_AREA = 15880,      /* uint32_t: nodes and edges */
     SODGRAVEL_PROPERTIES_AREA = 14344, /* uint32_t: properties */
     SODGRAVEL_VALUES_AREA = 8200,      /* uint32_t: property values */

@@ -299,6 +299,73 @@ def worst():
     yield Case("worst, few tokens", (schema, graph, lines(*chain[:9], *(conditions + never) * 35)))
 
 
+# ---- the members of types, of which each half of a mask has its first and its last
+
+ENDS = (0, 31, 32, 63)  # the object types at both ends of both halves
+SCALAR, ALL, BOTH_LAST, BOTH_FIRST, FACE, ROOT = 1, 2, 3, 4, 5, 6
+
+
+def ends_schema():
+    """64 types: objects but for a scalar, three unions and an interface. The union ALL and the interface have the object types ENDS, one
+    union the first of each half, one the last. The root's list field 0 is of the union ALL; field 1 is a scalar of ENDS and the interface."""
+    abstract = {SCALAR: ("S", 0, 999), ALL: ("U",), BOTH_LAST: ("U",), BOTH_FIRST: ("U",), FACE: ("I",)}
+    types = [abstract.get(t, ("O",)) for t in range(64)]
+    has = [("H", ROOT, 0), *[("H", t, 1) for t in (*ENDS, FACE)]]
+    members = [("M", t, o) for t in (ALL, FACE) for o in ENDS]
+    members += [("M", BOTH_FIRST, 0), ("M", BOTH_FIRST, 32), ("M", BOTH_LAST, 31), ("M", BOTH_LAST, 63)]
+    return lines(*types, ("F", ALL, 1), ("F", SCALAR, 0), *has, *members, ("Q", ROOT))
+
+
+def ends_graph(*others):
+    """The root and a node of each of ENDS, at which field 0 leads; then a node of each other type, at which it leads too."""
+    targets = (*ENDS, *others)
+    edges = [("E", 0, 0, u, 0) for u in range(1, len(targets) + 1)]
+    values = [("P", u, 1, 0, 0, 100 + u) for u in range(1, 5)]
+    return lines(("N", ROOT), *[("N", t) for t in targets], *values, *edges)
+
+
+def ends_query(*conditions):
+    """Field 0, and in it for each condition the interface's scalar."""
+    inner = [entry for t in conditions for entry in (("T", 1, t), ("T", 2, FACE), ("F", 3, t, 1, 0))]
+    return lines(("F", 0, 0, 0, 0), *inner)
+
+
+def own_types(scalars, graph_of=None):
+    """64 types: scalars first, the others objects, each with a field of its own that the first object type has and, where there is a
+    scalar, a scalar field. A node of each, and an edge to it by its field; `graph_of` tells at which node each edge ends."""
+    objects = range(scalars, 64)
+    schema = [*[("S", 0, 999)] * scalars, *[("O",) for _ in objects], *[("F", t, 0) for t in objects], *[("F", 0, 0)] * scalars]
+    schema += [("H", scalars, f) for f in range(len(objects))] + [("H", t, 63) for t in objects] * scalars + [("Q", scalars)]
+    ends = graph_of or list(range(len(objects)))
+    graph = [("N", t) for t in objects] + [("E", 0, f, u, 0) for f, u in enumerate(ends)]
+    query = [entry for f, t in enumerate(objects) for entry in (("F", 0, f, f, 0), ("T", 1, t), ("F", 2, f, 63, 0))]
+    return lines(*schema), lines(*graph), lines(*query)
+
+
+def members():
+    schema = ends_schema()
+    for call in (SIZE, ANSWER):
+        # at each of four nodes its own type and the interface hold, and two of the unions: four scalars of 2 tokens; met are 8
+        # conditions, 4 conditions inside them, and 4 fields
+        texts = (schema, ends_graph(), ends_query(*ENDS, FACE, ALL, BOTH_FIRST, BOTH_LAST))
+        yield Case("members at both ends, call %d" % call, texts, call=call, told=(0, 0, 3 + 4 * (2 + 4 * 2), 1 + 4 * (8 + 4 + 4)))
+        # an object type that none of the four nodes is of
+        for t in (ROOT, 30, 33, 62):
+            texts = (schema, ends_graph(), ends_query(t))
+            yield Case("no member %d, call %d" % (t, call), texts, call=call, told=(0, 0, 3 + 4 * 2, 1 + 4))
+    for t in (7, 30, 33, 62):
+        texts = (schema, ends_graph(t), ends_query(ALL))
+        yield Case("edge to a node of type %d" % t, texts, told=(24, 6 + 4 + 5, 0, 0))
+    # 64 object types: there is no scalar, so that no query is answered; the graph is judged before it
+    texts = own_types(0)
+    yield Case("64 object types", (texts[0], texts[1], b""), told=(32, 0, 0, 0))
+    for end in (0, 31, 32, 62):
+        graph_of = [63 if f == end else f for f in range(64)]
+        yield Case("64 object types, edge %d astray" % end, (texts[0], own_types(0, graph_of)[1], b""), told=(24, 64 + end + 1, 0, 0))
+    # 63 and a scalar, which is absent everywhere: each field has 3 tokens and 2 for the scalar
+    yield Case("63 object types", own_types(1), told=(0, 0, 63 * 5, 63 * 3))
+
+
 # ---- refusals that neither the vectors nor 01's samples have
 
 
@@ -326,7 +393,7 @@ def by_hand():
         yield case
 
 
-GROUPS = (vectors, samples, rooms, areas, doubling, large, longest, worst, maxima, by_hand)
+GROUPS = (vectors, samples, rooms, areas, doubling, large, longest, worst, members, maxima, by_hand)
 
 
 def main(only_list):

@@ -96,7 +96,7 @@ fn print_response(buffer: &[u32], size: u32)
 
 // Answers three texts.
 fn answer_texts(schema: &[u8], graph: &[u8], query: &[u8]) {
-    let mut a = [0u32; 14600];
+    let mut a = [0u32; 14728];
     let mut g = [0u32; 15880];
     let mut p = [0u32; 14344];
     let mut v = [0u32; 8200];

@@ -181,7 +181,7 @@ fn run_case() {
     let call = read_number();
     let room = read_number();
     let filling = read_number();
-    let mut a = [filling; 14601];
+    let mut a = [filling; 14729];
     let mut g = [filling; 15881];
     let mut p = [filling; 14345];
     let mut v = [filling; 8201];

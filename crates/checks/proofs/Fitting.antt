@@ -2,24 +2,27 @@
 use Prim.Native.Nat.{ℕ, _+_, _*_, _≤_, _<_}
 use native.Mathlib.Omega.{arith}
 use mathlib.Core.Path.{_≡_, refl, sym, ap, subst}
-use mathlib.Core.Bool.{Bool, true, false, not, true≢false}
+use mathlib.Core.Bool.{Bool, true, false, not, _&&_, true≢false, false≢true}
 use mathlib.Core.List.{List, [], _∷_}
 use mathlib.Core.Option.{none}
 use lib.Dec.{eqb}
 use lib.ListN.{length, length-append, List·getD-eq-default}
 use borrow.Author.Tests.{leb-false, ltb-false, eqb-true, not-false}
-use Rattle.rules.specs.Lists.{those, keepIf, each, sumOf}
-use Rattle.rules.specs.Text.{Row, row, at, valuesOf, rows, A, E, F, G, H, M, N, P, T}
+use Rattle.rules.specs.Lists.{those, keepIf, any, each, sumOf}
+use Rattle.rules.specs.Text.{Row, row, noRow, at, valuesOf, rows, typeNo, A, E, F, G, H, M, N, P, T}
 use Rattle.rules.specs.Search.{Check, firstLine}
-use Rattle.rules.specs.Schema.{is, isType, check11}
+use Rattle.rules.specs.Schema.{Schema, schemaOf, is, isType, states, kind, isObject, hasMembers, check11, check12}
+use Rattle.rules.specs.declared.TypeNo.{TypeNo}
 use Rattle.rules.specs.Graph.{check21}
 use Rattle.rules.specs.Query.{depth, check31}
 use Rattle.rules.specs.Forms.{formTests, graphForms, queryForms, textForm}
-use Rattle.rules.proofs.Bools.{clash}
+use Rattle.rules.proofs.Bools.{and-true-left, and-true-right, clash}
 use Rattle.rules.proofs.Clean.{Silent, Calm, Clean, clean, Each, clean-each}
 use Rattle.rules.proofs.Sound.{rows-each}
+use Rattle.text.proofs.Tools.{by-order}
 use Rattle.tables.specs.Layout.{belongs, counted, allValues}
 use Rattle.tables.specs.Fill.{SchemaFits, GraphFits}
+use Rattle.masks.specs.Masks.{MembersSound}
 
 -- ---- a maximum that each row keeps with the rows before it, all rows keep
 
@@ -72,6 +75,50 @@ schema-fits rs h =
       takes = count-fits check11 (is G) 1024 (λ b r a c e. leb-false 1024 (length (those (is G) b)) ((c .1 .1 .1 .1 .0) e .0)) rs h;
       members = count-fits check11 (is M) 1024 (λ b r a c e. leb-false 1024 (length (those (is M) b)) ((c .1 .1 .1 .1 .1 .0) e .0)) rs h;
     }
+
+-- ---- the members of types
+
+any-each : {A : Type 0} (P : A → Type 0) (p : A → Bool) (xs : List A) → Each P xs → any p xs ≡ true → (x : A) × (P x × (p x ≡ true))
+any-each P p [] e h = absurd (false≢true h)
+any-each {A} P p (x ∷ xs) e h = go (λ k. any-each P p xs (e .1) k) (p x) refl
+  where
+    go : (any p xs ≡ true → (y : A) × (P y × (p y ≡ true))) → (b : Bool) → p x ≡ b → (y : A) × (P y × (p y ≡ true))
+    go ih true t = (x, (e .0, t))
+    go ih false t = ih (rw t at h)
+
+-- an `M` record has a union or an interface, and an object type
+abbrev MemberSound : Schema → Row → Type 0
+MemberSound s r = is M r ≡ true → (hasMembers s (typeNo (at r 0)) ≡ true) × (isObject s (typeNo (at r 1)) ≡ true)
+
+-- the schema of rows that pass 11 and 12 has sound members
+pub members-sound : (rs : List Row) → SchemaFits rs → firstLine (check12 (schemaOf rs)) rs ≡ none → MembersSound (schemaOf rs)
+members-sound rs fits h = record { below = below; given = given }
+  where
+    below : (t : TypeNo) → (kind (schemaOf rs) t ≡ 0 → ⊥) → t .0 < 64
+    unfolding counted belongs
+    below t declared =
+        by-order (t .0) 64 (λ l. l)
+        (λ l. absurd (declared (ap (λ (r : Row). r .letter) (List·getD-eq-default (those isType rs) noRow (omega (arith, fits .types))))))
+
+    each-sound : Each (MemberSound (schemaOf rs)) rs
+    each-sound =
+        clean-each (check12 (schemaOf rs)) (MemberSound (schemaOf rs))
+        (λ b r a c e. let m = (c .1 .1 .1 .1 .1 .0) e in
+        (not-false (hasMembers (schemaOf rs) (typeNo (at r 0))) (m .0), not-false (isObject (schemaOf rs) (typeNo (at r 1))) (m .1 .0)))
+        [] rs (clean (check12 (schemaOf rs)) [] 1 rs h)
+
+    given : (t o : TypeNo) → (schemaOf rs .hasMember) t o ≡ true → (hasMembers (schemaOf rs) t ≡ true) × (isObject (schemaOf rs) o ≡ true)
+    given t o g =
+        let found = any-each (MemberSound (schemaOf rs)) (states M (t .0) (o .0)) rs each-sound g in
+        let r : Row = found .0 in
+        let is-member = and-true-left (is M r) (eqb (at r 0) (t .0) && eqb (at r 1) (o .0)) (found .1 .1) in
+        let pair = and-true-right (is M r) (eqb (at r 0) (t .0) && eqb (at r 1) (o .0)) (found .1 .1) in
+        let first = eqb-true (at r 0) (t .0) (and-true-left (eqb (at r 0) (t .0)) (eqb (at r 1) (o .0)) pair) in
+        let second = eqb-true (at r 1) (o .0) (and-true-right (eqb (at r 0) (t .0)) (eqb (at r 1) (o .0)) pair) in
+        let kinds = (found .1 .0) is-member in (
+          subst (λ (u : ℕ). hasMembers (schemaOf rs) (typeNo u) ≡ true) first (kinds .0),
+          subst (λ (u : ℕ). isObject (schemaOf rs) (typeNo u) ≡ true) second (kinds .1),
+        )
 
 -- ---- the graph
 

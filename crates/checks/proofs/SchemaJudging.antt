@@ -1,27 +1,34 @@
 -- The verdict on a schema's text. Assumes nothing.
 use Prim.Native.Nat.{ℕ, _≤_}
 use native.Mathlib.Omega.{arith}
-use mathlib.Core.Path.{_≡_, refl, sym, ap, _∙_}
+use mathlib.Core.Path.{_≡_, refl, sym, ap, _∙_, subst}
 use mathlib.Core.List.{List, [], _∷_}
 use lib.ListN.{length}
 use borrow.Author.Tests.{eq-eqb, ne-eqb}
 use Rattle.rules.specs.Lists.{those}
-use Rattle.rules.specs.Text.{rows, Q}
+use Rattle.rules.specs.Text.{Row, rows, Q}
 use Rattle.rules.specs.Search.{firstLine, spot}
 use Rattle.rules.specs.Schema.{Schema, schemaOf, is, check12, check13, check14, check15, check16}
-use Rattle.rules.specs.Answer.{_by_}
+use Rattle.rules.specs.Answer.{_by_, schemaChecks}
+use Rattle.rules.proofs.Clean.{Each}
 use Rattle.tables.specs.Layout.{schemaHead}
-use Rattle.index.specs.Buckets.{schemaArea}
+use Rattle.index.specs.Buckets.{schemaLinked, SchemaStands}
 use Rattle.tables.specs.Fill.{SchemaFits}
 use Rattle.tables.specs.Read.{cell, schemaAt}
-use Rattle.index.proofs.Views.{schema-view, schema-head, schema-length}
+use Rattle.index.proofs.Views.{schema-view, schema-head}
+use Rattle.masks.specs.Masks.{schemaNeeded, memberOf, MembersSound, masked, schemaArea, Masked}
+use Rattle.masks.specs.Join.{Maskable}
+use Rattle.masks.proofs.Agreeing.{linked-length, linked-here, linked-maskable, masks-laid}
+use Rattle.masks.proofs.Agreeing.{area-length, area-stands, area-masked}
+use Rattle.schema.specs.Held.{SchemaHeld}
 use Rattle.form.specs.Form.{formsOf}
 use Rattle.search.specs.Search.{areas, graphIn, checkBy, SchemaReady}
+use Rattle.search.proofs.Calls.{schema-held}
 use Rattle.checks.specs.declared.Verdict.{Verdict}
 use Rattle.checks.specs.Verdict.{refusedBy, judged, Opens, maximaOf, formChecks, laterSchema, SchemaJudged}
-use Rattle.checks.proofs.Judging.{judged-at, judged-past, judged-none, Left}
+use Rattle.checks.proofs.Judging.{judged-at, judged-past, judged-none, Positive, passed, Left}
 use Rattle.checks.proofs.Opening.{Opened, opened, opening-refused, opening-past}
-use Rattle.checks.proofs.Fitting.{schema-fits}
+use Rattle.checks.proofs.Fitting.{schema-fits, members-sound}
 
 -- ---- 12 to 16, of a schema that is laid out
 
@@ -33,7 +40,7 @@ SchemaLeft s a ns =
 module _ (s a : List ℕ) (ready : SchemaReady (rows s) (areas a a a a)) where
   view : schemaAt a ≡ schemaOf (rows s)
   unfolding areas
-  view = ap schemaAt (ready .held) ∙ schema-view (length a) (rows s) (ready .long) (ready .fits)
+  view = schema-view a (rows s) (ready .held) (ready .fits)
 
   -- the area states the schema of the rows, so that the search in it finds what the rules find
   pub all-left : SchemaLeft s a (12 ∷ 13 ∷ 14 ∷ 15 ∷ [])
@@ -52,8 +59,7 @@ module _ (s a : List ℕ) (ready : SchemaReady (rows s) (areas a a a a)) where
   -- the count of the Q records stands in the head
   queries : cell a 6 ≡ length (those (is Q) (rows s))
   unfolding areas schemaHead
-  queries =
-      ap (λ (l : List ℕ). cell l 6) (ready .held) ∙ schema-head (length a) (rows s) (ready .long) (ready .fits) 6 (omega arith)
+  queries = schema-head a (rows s) (ready .held) (ready .fits) 6 (omega arith)
 
   module _ (left : SchemaLeft s a []) {v : Verdict} where
     pub at-16 : (cell a 6 ≡ 1 → ⊥) → v ≡ refusedBy 16 (spot 0 0) → v ≡ judged (laterSchema s)
@@ -72,30 +78,61 @@ pub opens-10 : Opens 10
 unfolding Opens
 opens-10 = refl
 
+later-numbers : {s : List ℕ} → Each Positive (laterSchema s)
+unfolding laterSchema
+later-numbers = (omega arith, (omega arith, (omega arith, (omega arith, (omega arith, tt)))))
+
+abbrev number : Verdict → ℕ
+number v = v .number
+
 pub fits-11 : (s : List ℕ) → Opened 10 s → SchemaFits (rows s)
 unfolding maximaOf
 fits-11 s o = schema-fits (rows s) (o .few)
 
 -- the area laid out can be searched
-pub laid-ready : (s a : List ℕ) (n : ℕ) → 14600 ≤ n → Opened 10 s → a ≡ schemaArea n (rows s)
+pub laid-ready : (s a : List ℕ) (n : ℕ) → schemaNeeded ≤ n → Opened 10 s → a ≡ schemaLinked n (rows s)
     → SchemaReady (rows s) (areas a a a a)
 unfolding areas
 laid-ready s a n l o e =
-    let long : length a ≡ n = ap length e ∙ schema-length n (rows s) l (fits-11 s o) in
-    record { long = omega arith; fits = fits-11 s o; held = e ∙ ap (λ (k : ℕ). schemaArea k (rows s)) (sym long) }
+    record {
+      fits = fits-11 s o;
+      held = subst (λ (b : List ℕ). SchemaStands b (rows s)) (sym e) (linked-here n (rows s) l (fits-11 s o));
+    }
+
+-- and that of an accepted schema read, with its masks
+pub area-ready : (n : ℕ) (rs : List Row) → schemaNeeded ≤ n → SchemaFits rs → MembersSound (schemaOf rs)
+    → SchemaHeld (schemaArea n rs) × Masked (schemaArea n rs)
+area-ready n rs room fits sound = (schema-held (schemaArea n rs) rs (area-stands n rs room fits) fits, area-masked n rs room fits sound)
 
 module _ (s area : List ℕ) (n : ℕ) {b : Verdict} (form : b ≡ judged (formChecks 10 s)) where
   pub refused : length area ≡ n → (b .number ≡ 0 → ⊥) → SchemaJudged s n area b
   unfolding formsOf formChecks maximaOf laterSchema
   refused l h = record { is = opening-refused 10 opens-10 s form (laterSchema s) h; long = l; held = λ z. absurd (h z) }
 
-  -- the whole verdict, from that on the rows
-  pub accepted : b .number ≡ 0 → 14600 ≤ n → area ≡ schemaArea n (rows s) → {v : Verdict} → v ≡ judged (laterSchema s)
-      → SchemaJudged s n area v
+-- the verdict on the rows, in the area laid out
+module _ (s : List ℕ) (n : ℕ) {b : Verdict} (form : b ≡ judged (formChecks 10 s)) (z : b .number ≡ 0) (room : schemaNeeded ≤ n)
+    (a : List ℕ) (laid : a ≡ schemaLinked n (rows s)) {v : Verdict} (j : v ≡ judged (laterSchema s)) where
+  fits : SchemaFits (rows s)
+  fits = fits-11 s (opened 10 opens-10 s form z)
+
+  -- is the whole one
+  whole : v ≡ judged (schemaChecks s)
   unfolding formsOf formChecks maximaOf laterSchema
-  accepted z l e j =
-      record {
-        is = j ∙ sym (opening-past 10 opens-10 s form z (laterSchema s));
-        long = ap length e ∙ schema-length n (rows s) l (fits-11 s (opened 10 opens-10 s form z));
-        held = λ z. e;
-      }
+  whole = j ∙ sym (opening-past 10 opens-10 s form z (laterSchema s))
+
+  pub refused-rows : (v .number ≡ 0 → ⊥) → SchemaJudged s n a v
+  refused-rows h = record { is = whole; long = ap length laid ∙ linked-length n (rows s) room fits; held = λ y. absurd (h y) }
+
+  module _ (y : v .number ≡ 0) where
+    sound : MembersSound (schemaOf (rows s))
+    unfolding laterSchema
+    sound = members-sound (rows s) fits (passed (laterSchema s) later-numbers (ap number (sym j) ∙ y) .0)
+
+    -- the masks can be laid
+    pub laid-maskable : Maskable a
+    laid-maskable = subst Maskable (sym laid) (linked-maskable n (rows s) room fits sound)
+
+    pub accepted : (area : List ℕ) → area ≡ masked (memberOf (schemaAt a)) a → SchemaJudged s n area v
+    accepted area e =
+        let held = masks-laid n (rows s) room fits area (e ∙ ap (λ (x : List ℕ). masked (memberOf (schemaAt x)) x) laid) in
+        record { is = whole; long = ap length held ∙ area-length n (rows s) room fits; held = λ _. held }

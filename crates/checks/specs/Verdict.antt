@@ -14,7 +14,7 @@ use Rattle.rules.specs.Graph.{check21}
 use Rattle.rules.specs.Query.{check31}
 use Rattle.rules.specs.Answer.{Texts, Numbered, _by_, verdict, schemaIn, schemaChecks, graphChecks, queryChecks}
 use Rattle.rules.specs.declared.Spot.{Spot}
-use Rattle.index.specs.Buckets.{schemaArea}
+use Rattle.masks.specs.Masks.{schemaArea}
 use Rattle.form.specs.Form.{formsOf}
 use Rattle.checks.specs.declared.Verdict.{Verdict}
 
@@ -56,7 +56,8 @@ textChecks short x =
 
 -- ---- what a verdict leaves
 
--- of a schema's text, in an area of length n: where it is accepted, the area holds the schema's tables, followed by zeros
+-- of a schema's text, in an area of length n: where it is accepted, the area holds the schema's tables, their links and the masks, followed
+-- by zeros
 pub record SchemaJudged (text : List ℕ) (n : ℕ) (area : List ℕ) (v : Verdict) : Type 0 where
   pub is : v ≡ judged (schemaChecks text)
   pub long : length area ≡ n

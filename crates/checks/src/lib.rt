@@ -7,6 +7,7 @@ ghost use Rattle.rules.specs.Search.{spot};
 ghost use Rattle.rules.specs.Text.{rows, lines};
 ghost use Rattle.rules.proofs.Clean.{Each};
 ghost use Rattle.tables.specs.Fill.{Plain};
+ghost use Rattle.masks.specs.Masks.{schemaNeeded};
 ghost use Rattle.checks.specs.Verdict.{refusedBy, judged, Opens, formChecks, laterSchema, SchemaJudged};
 ghost use Rattle.search.specs.Search.{areas, SchemaReady};
 use rules::Spot;
@@ -79,9 +80,9 @@ fn judge_schema_rows(s: &[u8], a: &[u32]) -> Verdict
     refuse(0, nowhere())
 }
 
-// The verdict on a schema's text. Where it is accepted, the area holds it.
+// The verdict on a schema's text. Where it is accepted, the area holds it, with its masks.
 pub fn judge_schema(s: &[u8], a: &mut [u32]) -> Verdict
-    requires { ⌜ 14600 ≤ length (now a) ⌝ }
+    requires { ⌜ schemaNeeded ≤ length (now a) ⌝ }
     ensures { λ r. ⌜ SchemaJudged (now (s .entry)) (length (now (a .entry))) (now (a .exit)) r ⌝ }
 {
     let b = judge_form(10, s, a);
@@ -89,5 +90,10 @@ pub fn judge_schema(s: &[u8], a: &mut [u32]) -> Verdict
         return b;
     }
     index::lay_schema(s, a);
-    judge_schema_rows(s, a)
+    let c = judge_schema_rows(s, a);
+    if c.number != 0 {
+        return c;
+    }
+    masks::lay_masks(a);
+    c
 }

@@ -7,6 +7,7 @@ ghost use lib.Dec.{eqb};
 ghost use Rattle.rules.specs.Search.{asFault};
 ghost use Rattle.rules.specs.Graph.{sameLabel};
 ghost use Rattle.tables.specs.Read.{cell, wideAt, namedAt, startsAt, valuesAt};
+ghost use Rattle.masks.specs.Masks.{Masked};
 ghost use Rattle.schema.specs.Held.{SchemaHeld};
 ghost use Rattle.graph.specs.Held.{NodesHeld, PropertiesHeld};
 ghost use Rattle.graph.specs.Faults.{nodesAt, labelIs, labelFor, undeclared, untaken, outside, fault22, fault23, fault24E, fault24P, divertsAt, twinEdge, twinProperty};
@@ -232,6 +233,7 @@ pub fn check_23(a: &[u32], g: &[u32], l: u8, nums: [u32; 12]) -> Fault
 // Check 24 of an edge.
 pub fn check_24_edge(a: &[u32], g: &[u32], nums: [u32; 12]) -> Fault
     requires { ⌜ SchemaHeld (now a) ⌝ }
+    requires { ⌜ Masked (now a) ⌝ }
     requires { ⌜ NodesHeld (now g) ⌝ }
     requires { ⌜ length nums ≡ 12 ⌝ }
     ensures { λ r. ⌜ r ≡ asFault (fault24E (now (a .entry)) (now (g .entry)) nums) ⌝ }

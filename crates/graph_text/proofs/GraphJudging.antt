@@ -23,6 +23,7 @@ use Rattle.index.specs.Index.{sources, indexArea, indexAt, Rowed}
 use Rattle.index.proofs.Laying.{index-length}
 use Rattle.index.proofs.Areas.{index-edges, index-properties, index-rows, edges-rowed, properties-rowed}
 use Rattle.index.proofs.Declared.{edges-within, properties-within}
+use Rattle.masks.specs.Masks.{Masked}
 use Rattle.schema.specs.Held.{SchemaHeld}
 use Rattle.graph.specs.Held.{NodesHeld}
 use Rattle.graph.specs.Faults.{nodesAt}
@@ -159,11 +160,13 @@ module _ {s g p v : List ℕ} {n m k : ℕ} (laid : Laid s g p v n m k) where
   vLong = ap length (laid .values) ∙ value-length k (rows s) (laid .valuesRoom) (laid .fits .values)
 
   -- they can be searched
-  pub laid-ready : (a : List ℕ) → SchemaHeld a → k ≤ 16384 → textForm graphForms s ≡ none → GraphReady (rows s) (areas a g p v)
+  pub laid-ready : (a : List ℕ) → SchemaHeld a → Masked a → k ≤ 16384 → textForm graphForms s ≡ none
+      → GraphReady (rows s) (areas a g p v)
   unfolding areas
-  laid-ready a h most f =
+  laid-ready a h m most f =
       record {
         schema = h;
+        masks = m;
         nodesLong = omega (arith, gLong, laid .nodesRoom);
         propertiesLong = omega (arith, pLong, laid .propertiesRoom);
         valuesLong = omega (arith, vLong, laid .valuesRoom);

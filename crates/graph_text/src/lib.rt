@@ -7,6 +7,7 @@ ghost use Rattle.rules.specs.Graph.{nodesOf};
 ghost use Rattle.rules.proofs.Clean.{Each};
 ghost use Rattle.tables.specs.Fill.{Plain};
 ghost use Rattle.tables.specs.Read.{schemaAt};
+ghost use Rattle.masks.specs.Masks.{Masked};
 ghost use Rattle.schema.specs.Held.{SchemaHeld};
 ghost use Rattle.graph.specs.Held.{NodesHeld};
 ghost use Rattle.graph.specs.Faults.{nodesAt};
@@ -87,7 +88,7 @@ pub fn judge_graph(
     v: &mut [u32],
     ix: &mut [u32],
 ) -> Verdict
-    requires { ⌜ SchemaHeld (now a) ⌝ }
+    requires { ⌜ SchemaHeld (now a) × Masked (now a) ⌝ }
     requires { ⌜ 15880 ≤ length (now g) ⌝ }
     requires { ⌜ 14344 ≤ length (now p) ⌝ }
     requires { ⌜ 8200 ≤ length (now v) ⌝ }

@@ -16,7 +16,7 @@ use Rattle.tables.proofs.Narrow.{Stands, row-cell}
 use Rattle.tables.proofs.Schemas.{SchemaTable, has-table, takes-table, member-table, tables-length, tables-behind}
 use Rattle.tables.proofs.Schemas.{tables-low, tabled-stands, tabled-count}
 use Rattle.index.specs.Index.{linkCell, keys, Keyed, Chained, LinksLaid}
-use Rattle.index.specs.Buckets.{links, buckets, bucketAt, schemaArea, Linkable}
+use Rattle.index.specs.Buckets.{links, buckets, bucketAt, hasFrom, schemaLinked, SchemaStands, Linkable}
 use Rattle.index.proofs.Links.{tabled-length, tabled-at}
 use Rattle.index.proofs.Laying.{Linking}
 use Rattle.index.proofs.Areas.{rows-keys, linked-by}
@@ -182,8 +182,8 @@ module _ (n : ℕ) (rs : List Row) (room : 14600 ≤ n) (fits : SchemaFits rs) w
         pub members-linkable : Linkable a₂ 6920 (cell a₀ 5) 13064
         members-linkable = table-linkable member-links third (cell a₀ 5) (table-count member-links start)
 
-        pub schema-laid : (a₃ : List ℕ) → LinksLaid (keys (bucketAt a₂ 6920) (cell a₀ 5)) 13064 a₂ a₃ → a₃ ≡ schemaArea n rs
-        unfolding schemaArea
+        pub schema-laid : (a₃ : List ℕ) → LinksLaid (keys (bucketAt a₂ 6920) (cell a₀ 5)) 13064 a₂ a₃ → a₃ ≡ schemaLinked n rs
+        unfolding schemaLinked
         schema-laid a₃ last =
             table-laid member-links third (cell a₀ 5) (table-count member-links start) last
             ∙ ap (laid 13064 (links 1536 (buckets 6 rs)))
@@ -212,28 +212,44 @@ module _ (n : ℕ) (rs : List Row) (room : 14600 ≤ n) (fits : SchemaFits rs) w
   takes-tabled : Tabled n rs 13064 withTakes
   takes-tabled = tabled-on has-tabled (omega arith) takes-laid
 
-  members-laid : LinksLaid (buckets 6 rs) 13064 withTakes (schemaArea n rs)
-  unfolding schemaArea
+  members-laid : LinksLaid (buckets 6 rs) 13064 withTakes (schemaLinked n rs)
+  unfolding schemaLinked
   members-laid = laid-links (buckets 6 rs) 13064 withTakes (omega (arith, takes-tabled .same))
 
-  pub schema-tabled : Tabled n rs 14600 (schemaArea n rs)
+  pub schema-tabled : Tabled n rs 14600 (schemaLinked n rs)
   schema-tabled = tabled-on takes-tabled (omega arith) members-laid
 
   schema-cell : {k head base at : ℕ} → LinkedTable k head base at → (i : ℕ) → i < 1536
-      → cell (schemaArea n rs) (at + i) ≡ linkCell (buckets k rs) i
+      → cell (schemaLinked n rs) (at + i) ≡ linkCell (buckets k rs) i
   schema-cell has-links i h =
       (members-laid .below) (9992 + i) (omega arith) ∙ (takes-laid .below) (9992 + i) (omega arith) ∙ (has-laid .inside) i h
   schema-cell takes-links i h = (members-laid .below) (11528 + i) (omega arith) ∙ (takes-laid .inside) i h
   schema-cell member-links i h = (members-laid .inside) i h
 
+  -- what is laid stands, and whatever has the same in front of the links' end
+  pub linked-stands : SchemaStands (schemaLinked n rs) rs
+  linked-stands =
+      let long = schema-tabled .same in
+      record { long = omega arith; same = λ i h. ap (λ (m : ℕ). cell (schemaLinked m rs) i) (sym long) }
+
+-- ---- an area in which all stands
+
+module _ (a : List ℕ) (rs : List Row) (stands : SchemaStands a rs) (fits : SchemaFits rs) where
+  abbrev n : ℕ
+  n = length a
+
+  pub standing-tables : (i : ℕ) → i < hasFrom → cell a i ≡ cell (schemaTables n rs) i
+  standing-tables i h = (stands .same) i (omega arith) ∙ (schema-tabled n rs (stands .long) fits .tables) i h
+
   -- A table of the schema is linked by its buckets.
-  pub schema-linked : {k head base at : ℕ} → LinkedTable k head base at
-      → Chained (bucketAt (schemaArea n rs) base) (cell (schemaArea n rs) head) (schemaArea n rs) at
+  pub schema-linked : {k head base at : ℕ} → LinkedTable k head base at → Chained (bucketAt a base) (cell a head) a at
   schema-linked {k} {head} {base} {at} table =
-      let a = schemaArea n rs in
-      let count = table-count table schema-tabled in
-      let p = placed table in
+      let room = stands .long in
+      let tables = tabled-stands n rs (omega arith) fits a standing-tables (link-table n rs room fits table) in
+      let count = tabled-count n rs (omega arith) fits a standing-tables (link-table n rs room fits table) in
+      let p = placed n rs room fits table in
       linked-by (bucketAt a base) (cell a head) (buckets-keyed a base (cell a head) (omega (arith, count, p .0))) a at
-      (omega (arith, p .2, schema-tabled .same)) (p .2)
-      (λ i h. schema-cell table i h
-      ∙ ap (λ (ss : List ℕ). linkCell ss i) (sym (rows-buckets a k base (cell a head) rs (table-stands table schema-tabled) count)))
+      (omega (arith, p .2)) (p .2)
+      (λ i h. (stands .same) (at + i) (omega (arith, p .2))
+      ∙ schema-cell n rs room fits table i h
+      ∙ ap (λ (ss : List ℕ). linkCell ss i) (sym (rows-buckets a k base (cell a head) rs tables count)))

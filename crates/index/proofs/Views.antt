@@ -1,4 +1,4 @@
--- The schema area says what the schema's rows say. Assumes nothing.
+-- An area in which a schema's tables stand says what the schema's rows say. Assumes nothing.
 use Prim.Native.Nat.{ℕ, _+_, _≤_, _<_}
 use native.Mathlib.Omega.{arith}
 use mathlib.Core.Path.{_≡_, refl, sym, ap, _∙_, fun-ext}
@@ -17,23 +17,22 @@ use Rattle.tables.proofs.Those.{those-pass}
 use Rattle.tables.proofs.Narrow.{Stands, narrow-at, pairs-in, firsts-in, seconds-in}
 use Rattle.tables.proofs.Schemas.{SchemaTable, type-table, field-table, arg-table, has-table, takes-table, member-table}
 use Rattle.tables.proofs.Schemas.{tables-head, tabled-stands, tabled-count}
-use Rattle.index.specs.Buckets.{schemaArea}
-use Rattle.index.proofs.Buckets.{schema-tabled}
+use Rattle.index.specs.Buckets.{SchemaStands}
+use Rattle.index.proofs.Buckets.{standing-tables}
 
--- ---- the tables: the links laid behind them do not reach them
+-- ---- the tables: what stands behind them does not matter
 
-module _ (n : ℕ) (rs : List Row) (room : 14600 ≤ n) (fits : SchemaFits rs) where
-  pub schema-length : length (schemaArea n rs) ≡ n
-  schema-length = schema-tabled n rs room fits .same
+module _ (a : List ℕ) (rs : List Row) (stands : SchemaStands a rs) (fits : SchemaFits rs) where
+  pub schema-head : (i : ℕ) → i < 8 → cell a i ≡ getD (schemaHead rs) i 0
+  schema-head i h =
+      let long = stands .long in
+      standing-tables a rs stands fits i (omega arith) ∙ tables-head (length a) rs (omega arith) fits i h
 
-  pub schema-head : (i : ℕ) → i < 8 → cell (schemaArea n rs) i ≡ getD (schemaHead rs) i 0
-  schema-head i h = (schema-tabled n rs room fits .tables) i (omega arith) ∙ tables-head n rs (omega arith) fits i h
+  pub schema-stands : {k head base : ℕ} → SchemaTable k head base → Stands a k base rs
+  schema-stands = let long = stands .long in tabled-stands (length a) rs (omega arith) fits a (standing-tables a rs stands fits)
 
-  pub schema-stands : {k head base : ℕ} → SchemaTable k head base → Stands (schemaArea n rs) k base rs
-  schema-stands = tabled-stands n rs (omega arith) fits (schemaArea n rs) (schema-tabled n rs room fits .tables)
-
-  pub schema-count : {k head base : ℕ} → SchemaTable k head base → cell (schemaArea n rs) head ≡ counted k rs
-  schema-count = tabled-count n rs (omega arith) fits (schemaArea n rs) (schema-tabled n rs room fits .tables)
+  pub schema-count : {k head base : ℕ} → SchemaTable k head base → cell a head ≡ counted k rs
+  schema-count = let long = stands .long in tabled-count (length a) rs (omega arith) fits a (standing-tables a rs stands fits)
 
 -- ---- pairs among the first lines
 
@@ -43,28 +42,28 @@ pub data PairTable : ℕ → ℕ → ℕ → Type 0 where
   takes-pairs : PairTable 5 3848 G
   member-pairs : PairTable 6 6920 M
 
-module _ (n : ℕ) (ps rs : List Row) (room : 14600 ≤ n) (fits : SchemaFits (ps ++ rs)) where
+module _ (a : List ℕ) (ps rs : List Row) (stands : SchemaStands a (ps ++ rs)) (fits : SchemaFits (ps ++ rs)) where
   pub pairs-before : {k base letter : ℕ} → PairTable k base letter → (x y : ℕ)
-      → pairIn (schemaArea n (ps ++ rs)) base (counted k ps) x y ≡ any (states letter x y) ps
+      → pairIn a base (counted k ps) x y ≡ any (states letter x y) ps
   unfolding belongs
-  pairs-before has-pairs x y = pairs-in (schemaArea n (ps ++ rs)) 4 776 ps rs (schema-stands n (ps ++ rs) room fits has-table) x y
-  pairs-before takes-pairs x y = pairs-in (schemaArea n (ps ++ rs)) 5 3848 ps rs (schema-stands n (ps ++ rs) room fits takes-table) x y
-  pairs-before member-pairs x y = pairs-in (schemaArea n (ps ++ rs)) 6 6920 ps rs (schema-stands n (ps ++ rs) room fits member-table) x y
+  pairs-before has-pairs x y = pairs-in a 4 776 ps rs (schema-stands a (ps ++ rs) stands fits has-table) x y
+  pairs-before takes-pairs x y = pairs-in a 5 3848 ps rs (schema-stands a (ps ++ rs) stands fits takes-table) x y
+  pairs-before member-pairs x y = pairs-in a 6 6920 ps rs (schema-stands a (ps ++ rs) stands fits member-table) x y
 
   -- the rows with a first number, and their second numbers
   pub firsts-before : {k base letter : ℕ} → PairTable k base letter → (x : ℕ)
-      → firstIn (schemaArea n (ps ++ rs)) base (counted k ps) x ≡ any (begins letter x) ps
+      → firstIn a base (counted k ps) x ≡ any (begins letter x) ps
   unfolding belongs
-  firsts-before has-pairs x = firsts-in (schemaArea n (ps ++ rs)) 4 776 ps rs (schema-stands n (ps ++ rs) room fits has-table) x
-  firsts-before takes-pairs x = firsts-in (schemaArea n (ps ++ rs)) 5 3848 ps rs (schema-stands n (ps ++ rs) room fits takes-table) x
-  firsts-before member-pairs x = firsts-in (schemaArea n (ps ++ rs)) 6 6920 ps rs (schema-stands n (ps ++ rs) room fits member-table) x
+  firsts-before has-pairs x = firsts-in a 4 776 ps rs (schema-stands a (ps ++ rs) stands fits has-table) x
+  firsts-before takes-pairs x = firsts-in a 5 3848 ps rs (schema-stands a (ps ++ rs) stands fits takes-table) x
+  firsts-before member-pairs x = firsts-in a 6 6920 ps rs (schema-stands a (ps ++ rs) stands fits member-table) x
 
   pub seconds-before : {k base letter : ℕ} → PairTable k base letter → (x : ℕ)
-      → secondsIn (schemaArea n (ps ++ rs)) base (counted k ps) x ≡ map (λ r. at r 1) (those (begins letter x) ps)
+      → secondsIn a base (counted k ps) x ≡ map (λ r. at r 1) (those (begins letter x) ps)
   unfolding belongs
-  seconds-before has-pairs x = seconds-in (schemaArea n (ps ++ rs)) 4 776 ps rs (schema-stands n (ps ++ rs) room fits has-table) x
-  seconds-before takes-pairs x = seconds-in (schemaArea n (ps ++ rs)) 5 3848 ps rs (schema-stands n (ps ++ rs) room fits takes-table) x
-  seconds-before member-pairs x = seconds-in (schemaArea n (ps ++ rs)) 6 6920 ps rs (schema-stands n (ps ++ rs) room fits member-table) x
+  seconds-before has-pairs x = seconds-in a 4 776 ps rs (schema-stands a (ps ++ rs) stands fits has-table) x
+  seconds-before takes-pairs x = seconds-in a 5 3848 ps rs (schema-stands a (ps ++ rs) stands fits takes-table) x
+  seconds-before member-pairs x = seconds-in a 6 6920 ps rs (schema-stands a (ps ++ rs) stands fits member-table) x
 
 -- ---- the whole schema
 
@@ -82,39 +81,35 @@ below-declared p rs c j none e = go (ltb j c) refl
         let far : length (those p rs) ≤ j = omega (arith, ltb-false j c t) in
         t ∙ sym (ap p (List·getD-eq-default (those p rs) noRow far) ∙ none)
 
-module _ (n : ℕ) (rs : List Row) (room : 14600 ≤ n) (fits : SchemaFits rs) where
-  a : List ℕ
-  a = schemaArea n rs
-
+module _ (a : List ℕ) (rs : List Row) (stands : SchemaStands a rs) (fits : SchemaFits rs) where
   -- cell i of row j of a table, zeros where there is no such row
   at-row : {k head base : ℕ} → SchemaTable k head base → (j i : ℕ) → i < 3 → narrowAt a head base j i ≡ getD (narrow (nth (belongs k) rs j)) i 0
-  unfolding a
   at-row {k} {head} {base} t j i b =
-      narrow-at (schemaArea n rs) k base rs (schema-stands n rs room fits t) head j i (schema-count n rs room fits t) b
+      narrow-at a k base rs (schema-stands a rs stands fits t) head j i (schema-count a rs stands fits t) b
+
+  -- all lines as first lines
+  whole-stands : SchemaStands a (rs ++ [])
+  whole-stands = rw append-nil stands
 
   whole-fits : SchemaFits (rs ++ [])
   whole-fits = rw append-nil fits
 
   -- what is asked of the rows of the first lines, asked of all
-  all-rows : {B : Type 0} {k head base : ℕ} → SchemaTable k head base → (ask : List ℕ → ℕ → B) (x : B)
-      → ask (schemaArea n (rs ++ [])) (counted k rs) ≡ x → ask a (cell a head) ≡ x
-  unfolding a
-  all-rows {k = k} t ask x e =
-      ap (ask (schemaArea n rs)) (schema-count n rs room fits t)
-      ∙ ap (λ (l : List Row). ask (schemaArea n l) (counted k rs)) (sym (append-nil rs))
-      ∙ e
+  all-rows : {B : Type 0} {k head base : ℕ} → SchemaTable k head base → (ask : ℕ → B) (x : B)
+      → ask (counted k rs) ≡ x → ask (cell a head) ≡ x
+  all-rows t ask x e = ap ask (schema-count a rs stands fits t) ∙ e
 
   pairs-all : {k head base letter : ℕ} → SchemaTable k head base → PairTable k base letter → (x y : ℕ)
       → pairIn a base (cell a head) x y ≡ any (states letter x y) rs
-  pairs-all {base = base} t p x y = all-rows t (λ b c. pairIn b base c x y) _ (pairs-before n rs [] room whole-fits p x y)
+  pairs-all {base = base} t p x y = all-rows t (λ c. pairIn a base c x y) _ (pairs-before a rs [] whole-stands whole-fits p x y)
 
   firsts-all : {k head base letter : ℕ} → SchemaTable k head base → PairTable k base letter → (x : ℕ)
       → firstIn a base (cell a head) x ≡ any (begins letter x) rs
-  firsts-all {base = base} t p x = all-rows t (λ b c. firstIn b base c x) _ (firsts-before n rs [] room whole-fits p x)
+  firsts-all {base = base} t p x = all-rows t (λ c. firstIn a base c x) _ (firsts-before a rs [] whole-stands whole-fits p x)
 
   seconds-all : {k head base letter : ℕ} → SchemaTable k head base → PairTable k base letter → (x : ℕ)
       → secondsIn a base (cell a head) x ≡ map (λ r. at r 1) (those (begins letter x) rs)
-  seconds-all {base = base} t p x = all-rows t (λ b c. secondsIn b base c x) _ (seconds-before n rs [] room whole-fits p x)
+  seconds-all {base = base} t p x = all-rows t (λ c. secondsIn a base c x) _ (seconds-before a rs [] whole-stands whole-fits p x)
 
   same-kind : schemaAt a .kind ≡ schemaOf rs .kind
   unfolding schemaAt narrow belongs
@@ -129,8 +124,8 @@ module _ (n : ℕ) (rs : List Row) (room : 14600 ≤ n) (fits : SchemaFits rs) w
   same-high = fun-ext (λ t. at-row type-table (t .0) 2 (omega arith))
 
   same-fields : schemaAt a .declaredField ≡ schemaOf rs .declaredField
-  unfolding schemaAt a counted belongs
-  same-fields = fun-ext (λ f. below-declared (is F) rs (cell a 1) (f .0) refl (schema-count n rs room fits field-table))
+  unfolding schemaAt counted belongs
+  same-fields = fun-ext (λ f. below-declared (is F) rs (cell a 1) (f .0) refl (schema-count a rs stands fits field-table))
 
   same-field-type : schemaAt a .fieldType ≡ schemaOf rs .fieldType
   unfolding schemaAt narrow belongs
@@ -141,8 +136,8 @@ module _ (n : ℕ) (rs : List Row) (room : 14600 ≤ n) (fits : SchemaFits rs) w
   same-mark = fun-ext (λ o. fun-ext (λ f. at-row field-table (f .0) 2 (omega arith)))
 
   same-args : schemaAt a .declaredArg ≡ schemaOf rs .declaredArg
-  unfolding schemaAt a counted belongs
-  same-args = fun-ext (λ x. below-declared (is A) rs (cell a 2) (x .0) refl (schema-count n rs room fits arg-table))
+  unfolding schemaAt counted belongs
+  same-args = fun-ext (λ x. below-declared (is A) rs (cell a 2) (x .0) refl (schema-count a rs stands fits arg-table))
 
   same-arg-type : schemaAt a .argType ≡ schemaOf rs .argType
   unfolding schemaAt narrow belongs
@@ -170,12 +165,11 @@ module _ (n : ℕ) (rs : List Row) (room : 14600 ≤ n) (fits : SchemaFits rs) w
   same-some = fun-ext (λ t. firsts-all member-table member-pairs (t .0))
 
   same-query : schemaAt a .queryType ≡ schemaOf rs .queryType
-  unfolding schemaAt schemaHead a
-  same-query = ap typeNo (schema-head n rs room fits 7 (omega arith))
+  unfolding schemaAt schemaHead
+  same-query = ap typeNo (schema-head a rs stands fits 7 (omega arith))
 
   -- The area read as a schema is the schema of the rows.
-  pub schema-view : schemaAt (schemaArea n rs) ≡ schemaOf rs
-  unfolding a
+  pub schema-view : schemaAt a ≡ schemaOf rs
   schema-view =
       λ i. record {
         kind = same-kind i;

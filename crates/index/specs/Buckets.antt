@@ -1,7 +1,9 @@
--- The schema's area: its tables, and behind them the links of H, G and M, whose rows are looked for by their first numbers. A key is below
+-- The front of the schema's area: its tables, and behind them the links of H, G and M, whose rows are looked for by their first numbers. A key is below
 -- 512 and a number need not be, so that a row's key is its bucket: the remainder of its first number. Assumes nothing.
-use Prim.Native.Nat.{ℕ, _+_, _*_, _%_, _≤_}
+use Prim.Native.Nat.{ℕ, _+_, _*_, _%_, _≤_, _<_}
+use mathlib.Core.Path.{_≡_}
 use mathlib.Core.List.{List, map}
+use lib.ListN.{length}
 use Rattle.rules.specs.Lists.{those, countUp}
 use Rattle.rules.specs.Text.{Row, at}
 use Rattle.tables.specs.Layout.{laid, belongs, schemaTables}
@@ -20,7 +22,7 @@ buckets k rs = map (λ r. at r 0 % 512) (those (belongs k) rs)
 unfoldable pub bucketAt : List ℕ → ℕ → ℕ → ℕ
 bucketAt a base j = cell a (base + 3 * j + 1) % 512
 
--- where the links of H, of G and of M stand in the schema's area; they end at 14600
+-- where the links of H, of G and of M stand in the schema's area, and where they end
 abbrev pub hasFrom : ℕ
 hasFrom = 9992
 
@@ -30,10 +32,18 @@ takesFrom = 11528
 abbrev pub membersFrom : ℕ
 membersFrom = 13064
 
-unfoldable pub schemaArea : ℕ → List Row → List ℕ
-schemaArea n rs =
+abbrev pub linksEnd : ℕ
+linksEnd = 14600
+
+unfoldable pub schemaLinked : ℕ → List Row → List ℕ
+schemaLinked n rs =
     laid membersFrom (links 1536 (buckets 6 rs))
     (laid takesFrom (links 1536 (buckets 5 rs)) (laid hasFrom (links 1536 (buckets 4 rs)) (schemaTables n rs)))
+
+-- The tables and the links of the rows stand in an area, whatever stands behind them.
+pub record SchemaStands (a : List ℕ) (rs : List Row) : Type 0 where
+  pub long : linksEnd ≤ length a
+  pub same : (i : ℕ) → i < linksEnd → cell a i ≡ cell (schemaLinked (length a) rs) i
 
 -- A narrow table of n rows from `base` on, and behind it, from `at` on, room for its links.
 pub record Linkable (a : List ℕ) (base n at : ℕ) : Type 0 where

@@ -10,7 +10,7 @@ ghost use Rattle.rules.proofs.Clean.{Each};
 ghost use Rattle.tables.specs.Read.{cell};
 ghost use Rattle.tables.specs.Fill.{Plain, SchemaFits};
 ghost use Rattle.index.specs.Index.{ledTo, keys, Rowed, Blank, rowLinked, LinksLaid, sourcesAt, indexAt};
-ghost use Rattle.index.specs.Buckets.{bucketAt, schemaArea, Linkable};
+ghost use Rattle.index.specs.Buckets.{bucketAt, linksEnd, schemaLinked, Linkable};
 
 // Where the links of `H`, of `G` and of `M` stand in the schema's area.
 pub const HAS_LINKS: usize = 9992;
@@ -103,13 +103,13 @@ fn lay_buckets(a: &mut [u32], base: usize, n: usize, at: usize)
     }
 }
 
-// Lays an accepted schema out: its tables, and the links of those that are looked through by their first numbers.
+// Lays the rows of a schema out: its tables, and the links of those that are looked through by their first numbers.
 pub fn lay_schema(s: &[u8], a: &mut [u32])
     requires { ⌜ length (now s) ≤ 65535 ⌝ }
     requires { ⌜ Each Plain (lines (now s)) ⌝ }
     requires { ⌜ SchemaFits (rows (now s)) ⌝ }
-    requires { ⌜ 14600 ≤ length (now a) ⌝ }
-    ensures { λ _. ⌜ now (a .exit) ≡ schemaArea (length (now (a .entry))) (rows (now (s .entry))) ⌝ }
+    requires { ⌜ linksEnd ≤ length (now a) ⌝ }
+    ensures { λ _. ⌜ now (a .exit) ≡ schemaLinked (length (now (a .entry))) (rows (now (s .entry))) ⌝ }
 {
     tables::lay_schema(s, a);
     let has = a[3] as usize;

@@ -14,18 +14,18 @@ use Rattle.rules.specs.Schema.{Schema, schemaOf}
 use Rattle.rules.specs.Answer.{Texts, schemaIn, schemaChecks, graphChecks, queryChecks}
 use Rattle.rules.proofs.Clean.{Each, each-append}
 use Rattle.tables.specs.Layout.{nodeArea, propertyArea, valueArea, queryArea}
-use Rattle.index.specs.Buckets.{schemaArea}
+use Rattle.masks.specs.Masks.{schemaNeeded, schemaArea, MembersSound, Masked}
+use Rattle.masks.proofs.Agreeing.{area-view}
 use Rattle.tables.specs.Read.{schemaAt}
 use Rattle.tables.specs.Fill.{SchemaFits}
-use Rattle.index.proofs.Views.{schema-view}
 use Rattle.index.specs.Index.{indexArea}
 use Rattle.schema.specs.Held.{SchemaHeld}
-use Rattle.search.proofs.Calls.{schema-held}
 use Rattle.checks.specs.declared.Verdict.{Verdict}
 use Rattle.checks.specs.Verdict.{refusedBy, judged, textChecks, SchemaJudged}
 use Rattle.checks.proofs.Judging.{judged-at, judged-past, Positive, passed, front, behind}
 pub use Rattle.checks.proofs.Judging.{Passes}
-use Rattle.checks.proofs.Fitting.{schema-fits}
+use Rattle.checks.proofs.Fitting.{schema-fits, members-sound}
+use Rattle.checks.proofs.SchemaJudging.{area-ready}
 use Rattle.graph_text.specs.GraphVerdict.{GraphJudged}
 use Rattle.query_text.specs.QueryVerdict.{QueryJudged}
 use Rattle.judge.specs.Texts.{texts, Lent, lent, workAreas, tooShortOf, Judged}
@@ -46,7 +46,7 @@ query-numbers t s = (omega arith, (omega arith, (omega arith, (omega arith, (ome
 
 -- areas none of which is too short
 pub record Long (w : Lent) : Type 0 where
-  pub schema : 14600 ≤ length (w .schema)
+  pub schema : schemaNeeded ≤ length (w .schema)
   pub nodes : 15880 ≤ length (w .nodes)
   pub properties : 14344 ≤ length (w .properties)
   pub values : 8200 ≤ length (w .values)
@@ -57,7 +57,7 @@ pub enough : (w : Lent) → Long w → tooShortOf w ≡ false
 unfolding tooShortOf workAreas
 enough w long =
     rw (
-      le-ltb (length (w .schema)) 14600 (long .schema),
+      le-ltb (length (w .schema)) schemaNeeded (long .schema),
       le-ltb (length (w .nodes)) 15880 (long .nodes),
       le-ltb (length (w .properties)) 14344 (long .properties),
       le-ltb (length (w .values)) 8200 (long .values),
@@ -89,27 +89,27 @@ long-areas w h =
 
 -- the first area that is too short
 module _ (w : Lent) where
-  pub short-schema : length (w .schema) < 14600 → true ≡ tooShortOf w
+  pub short-schema : length (w .schema) < schemaNeeded → true ≡ tooShortOf w
   unfolding tooShortOf workAreas
-  short-schema h = rw (lt-ltb (length (w .schema)) 14600 h)
+  short-schema h = rw (lt-ltb (length (w .schema)) schemaNeeded h)
 
-  module _ (a : 14600 ≤ length (w .schema)) where
+  module _ (a : schemaNeeded ≤ length (w .schema)) where
     pub short-nodes : length (w .nodes) < 15880 → true ≡ tooShortOf w
     unfolding tooShortOf workAreas
-    short-nodes h = rw (le-ltb (length (w .schema)) 14600 a, lt-ltb (length (w .nodes)) 15880 h)
+    short-nodes h = rw (le-ltb (length (w .schema)) schemaNeeded a, lt-ltb (length (w .nodes)) 15880 h)
 
     module _ (g : 15880 ≤ length (w .nodes)) where
       pub short-properties : length (w .properties) < 14344 → true ≡ tooShortOf w
       unfolding tooShortOf workAreas
       short-properties h =
-          rw (le-ltb (length (w .schema)) 14600 a, le-ltb (length (w .nodes)) 15880 g, lt-ltb (length (w .properties)) 14344 h)
+          rw (le-ltb (length (w .schema)) schemaNeeded a, le-ltb (length (w .nodes)) 15880 g, lt-ltb (length (w .properties)) 14344 h)
 
       module _ (p : 14344 ≤ length (w .properties)) where
         pub short-values : length (w .values) < 8200 → true ≡ tooShortOf w
         unfolding tooShortOf workAreas
         short-values h =
             rw (
-              le-ltb (length (w .schema)) 14600 a,
+              le-ltb (length (w .schema)) schemaNeeded a,
               le-ltb (length (w .nodes)) 15880 g,
               le-ltb (length (w .properties)) 14344 p,
               lt-ltb (length (w .values)) 8200 h,
@@ -120,7 +120,7 @@ module _ (w : Lent) where
           unfolding tooShortOf workAreas
           short-index h =
               rw (
-                le-ltb (length (w .schema)) 14600 a,
+                le-ltb (length (w .schema)) schemaNeeded a,
                 le-ltb (length (w .nodes)) 15880 g,
                 le-ltb (length (w .properties)) 14344 p,
                 le-ltb (length (w .values)) 8200 v,
@@ -131,7 +131,7 @@ module _ (w : Lent) where
           unfolding tooShortOf workAreas
           short-query x =
               rw (
-                le-ltb (length (w .schema)) 14600 a,
+                le-ltb (length (w .schema)) schemaNeeded a,
                 le-ltb (length (w .nodes)) 15880 g,
                 le-ltb (length (w .properties)) 14344 p,
                 le-ltb (length (w .values)) 8200 v,
@@ -163,18 +163,23 @@ module _ (s g q : List ℕ) (w : Lent) (long : tooShortOf w ≡ false) where
           held = λ z. absurd (h z);
         }
 
-    module _ (room : 14600 ≤ n) (z : b .number ≡ 0) where
+    module _ (room : schemaNeeded ≤ n) (z : b .number ≡ 0) where
       passes : Each Passes (schemaChecks s)
       passes = passed (schemaChecks s) (schema-numbers s) (ap number (sym (j .is)) ∙ z)
 
       fits : SchemaFits (rows s)
       fits = schema-fits (rows s) (passes .1 .0)
 
-      pub held-schema : SchemaHeld a
-      held-schema = subst SchemaHeld (sym (j .held z)) (schema-held n (rows s) room fits)
+      sound : MembersSound t
+      sound = members-sound (rows s) fits (passes .1 .1 .0)
+
+      -- the area can be read, with its masks
+      pub held-schema : SchemaHeld a × Masked a
+      held-schema =
+          subst (λ (b : List ℕ). SchemaHeld b × Masked b) (sym (j .held z)) (area-ready n (rows s) room fits sound)
 
       same-schema : schemaAt a ≡ t
-      same-schema = ap schemaAt (j .held z) ∙ schema-view n (rows s) room fits
+      same-schema = ap schemaAt (j .held z) ∙ area-view n (rows s) room fits
 
       past-schema : judged (textChecks (tooShortOf w) x) ≡ judged (graphChecks (schemaAt a) g ++ queryChecks (schemaAt a) q)
       past-schema =

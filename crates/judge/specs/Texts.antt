@@ -7,7 +7,7 @@ use lib.ListN.{length, take}
 use Rattle.rules.specs.Text.{rows}
 use Rattle.rules.specs.Answer.{Texts, Area, tooShort}
 use Rattle.tables.specs.Layout.{nodeArea, propertyArea, valueArea, queryArea}
-use Rattle.index.specs.Buckets.{schemaArea}
+use Rattle.masks.specs.Masks.{schemaNeeded, schemaArea}
 use Rattle.index.specs.Index.{indexArea}
 use Rattle.checks.specs.declared.Verdict.{Verdict}
 use Rattle.checks.specs.Verdict.{judged, textChecks}
@@ -31,7 +31,7 @@ lent a g p v x q = record { schema = a; nodes = g; properties = p; values = v; i
 -- each with the length that is needed
 unfoldable pub workAreas : Lent → List Area
 workAreas w =
-    record { needed = 14600; held = w .schema }
+    record { needed = schemaNeeded; held = w .schema }
     ∷ record { needed = 15880; held = w .nodes }
     ∷ record { needed = 14344; held = w .properties }
     ∷ record { needed = 8200; held = w .values }

@@ -3,6 +3,7 @@
 ghost use mathlib.Core.Path.{_≡_};
 ghost use Prim.Native.Nat.{_≤_};
 ghost use lib.ListN.{length};
+ghost use Rattle.masks.specs.Masks.{schemaNeeded};
 ghost use Rattle.judge.specs.Texts.{texts, lent, tooShortOf, Judged};
 use checks::Verdict;
 
@@ -10,7 +11,7 @@ use checks::Verdict;
 fn short(a: &[u32], g: &[u32], p: &[u32], v: &[u32], ix: &[u32], q: &[u32]) -> bool
     ensures { λ r. ⌜ r ≡ tooShortOf (lent (now (a .entry)) (now (g .entry)) (now (p .entry)) (now (v .entry)) (now (ix .entry)) (now (q .entry))) ⌝ }
 {
-    if a.len() < 14600 {
+    if a.len() < masks::SCHEMA_NEEDED {
         return true;
     }
     if g.len() < 15880 {
@@ -40,7 +41,7 @@ fn judge_texts(
     ix: &mut [u32],
     q: &mut [u32],
 ) -> Verdict
-    requires { ⌜ 14600 ≤ length (now a) ⌝ }
+    requires { ⌜ schemaNeeded ≤ length (now a) ⌝ }
     requires { ⌜ 15880 ≤ length (now g) ⌝ }
     requires { ⌜ 14344 ≤ length (now p) ⌝ }
     requires { ⌜ length (now v) ≡ 8200 ⌝ }

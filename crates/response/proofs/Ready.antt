@@ -24,15 +24,16 @@ use Rattle.tables.proofs.Labelling.{each-at}
 use Rattle.index.specs.Index.{Linked}
 use Rattle.index.proofs.Areas.{rows-linked}
 use Rattle.index.proofs.Declared.{edges-within, properties-within}
+use Rattle.masks.specs.Masks.{Masked}
 use Rattle.schema.specs.Held.{SchemaHeld}
 use Rattle.graph.specs.Faults.{nodesAt}
 use Rattle.query.specs.Entries.{QueryHeld, entriesAt}
 use Rattle.search.specs.Search.{areas, GraphReady}
-use Rattle.search.proofs.Calls.{schema-held}
 use Rattle.search.proofs.Asking.{nodes-read, properties-read}
 use Rattle.checks.specs.declared.Verdict.{Verdict}
 use Rattle.checks.proofs.Entering.{QueryFormed, query-formed, query-entries, query-entries-same, query-held}
-use Rattle.checks.proofs.Fitting.{schema-fits, graph-fits, query-fits}
+use Rattle.checks.proofs.Fitting.{schema-fits, members-sound, graph-fits, query-fits}
+use Rattle.checks.proofs.SchemaJudging.{area-ready}
 use Rattle.graph_text.proofs.GraphJudging.{Laid, laid-ready}
 use Rattle.judge.specs.Texts.{Lent, tooShortOf, Holding, Judged}
 use Rattle.judge.proofs.Texts.{Long}
@@ -98,10 +99,12 @@ module _ (x : Texts) (before after : Lent) (v : Verdict) (j : Judged x before af
   long = areas-long x before after v j z
 
   -- the schema and the graph
-  schema-ready : SchemaHeld (after .schema)
+  schema-ready : SchemaHeld (after .schema) × Masked (after .schema)
   schema-ready =
-      subst SchemaHeld (sym (hold .schema))
-      (schema-held (length (before .schema)) (rows (x .schema)) (long .schema) (schema-fits (rows (x .schema)) (passed 11)))
+      let rs = rows (x .schema) in
+      let fits = schema-fits rs (passed 11) in
+      subst (λ (a : List ℕ). SchemaHeld a × Masked a) (sym (hold .schema))
+      (area-ready (length (before .schema)) rs (long .schema) fits (members-sound rs fits (passed 12)))
 
   graph-laid : Laid (x .graph) (after .nodes) (after .properties) vs (length (before .nodes)) (length (before .properties)) 8200
   graph-laid =
@@ -116,7 +119,7 @@ module _ (x : Texts) (before after : Lent) (v : Verdict) (j : Judged x before af
       }
 
   graph-ready : GraphReady (graphRows x) (areas (after .schema) (after .nodes) (after .properties) vs)
-  graph-ready = laid-ready graph-laid (after .schema) schema-ready (omega arith) (passed 20)
+  graph-ready = laid-ready graph-laid (after .schema) (schema-ready .0) (schema-ready .1) (omega arith) (passed 20)
 
   same-world : worldIn after ≡ worldOf x
   unfolding worldAt
@@ -152,7 +155,7 @@ module _ (x : Texts) (before after : Lent) (v : Verdict) (j : Judged x before af
   unfolding areas
   world-ready =
       record {
-        graph = record { schema = schema-ready; edges = edges-ready };
+        graph = record { schema = schema-ready .0; masks = schema-ready .1; edges = edges-ready };
         properties = properties-read (graphRows x) _ graph-ready;
         values = omega (arith, length-take 8200 (after .values));
         own = linked .1;

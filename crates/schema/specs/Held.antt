@@ -5,7 +5,7 @@ use mathlib.Core.List.{List}
 use lib.ListN.{length}
 use Rattle.tables.specs.Read.{cell}
 use Rattle.index.specs.Index.{Chained}
-use Rattle.index.specs.Buckets.{bucketAt, hasFrom, takesFrom, membersFrom}
+use Rattle.index.specs.Buckets.{bucketAt, hasFrom, takesFrom, membersFrom, linksEnd}
 
 -- The rows of a table from `base` on, as many as stand at `head`, are linked by their buckets from `at` on. A sealed name, so that a search
 -- through what is known of an area does not enter the links.
@@ -13,7 +13,7 @@ unfoldable pub Bucketed : List ℕ → ℕ → ℕ → ℕ → Type 0
 Bucketed a head base at = Chained (bucketAt a base) (cell a head) a at
 
 pub record SchemaHeld (a : List ℕ) : Type 0 where
-  pub long : 14600 ≤ length a
+  pub long : linksEnd ≤ length a
   pub types : cell a 0 ≤ 64
   pub fields : cell a 1 ≤ 128
   pub args : cell a 2 ≤ 64

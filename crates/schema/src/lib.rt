@@ -7,6 +7,7 @@ ghost use Rattle.rules.specs.Schema.{kind, fieldType, listMark, hasField, takes
 ghost use Rattle.tables.specs.Read.{cell, narrowAt, pairAt, pairIn, firstIn, schemaAt};
 ghost use Rattle.index.specs.Index.{Chained};
 ghost use Rattle.index.specs.Buckets.{bucketAt};
+ghost use Rattle.masks.specs.Masks.{Masked};
 ghost use Rattle.schema.specs.Held.{SchemaHeld};
 ghost use Rattle.schema.specs.Faults.{fault12, fault14, fault15, lacks};
 use rules::ArgNo;
@@ -214,15 +215,15 @@ pub fn takes_arg(a: &[u32], f: FieldNo, x: ArgNo) -> bool
     pair_along(a, 3848, index::TAKES_LINKS, a[4], f.0, x.0)
 }
 
-// Whether the object type o is compatible with t.
+// Whether the object type o is compatible with t: it is t, or its bit is set in the mask of t.
 pub fn is_compatible(a: &[u32], o: TypeNo, t: TypeNo) -> bool
-    requires { ⌜ SchemaHeld (now a) ⌝ }
+    requires { ⌜ Masked (now a) ⌝ }
     ensures { λ r. ⌜ r ≡ compatible (schemaAt (now (a .entry))) o t ⌝ }
 {
     if o.0 == t.0 {
         return true;
     }
-    pair_along(a, 6920, index::MEMBER_LINKS, a[5], t.0, o.0)
+    bits::has_bit(masks::members(a, t), o.0)
 }
 
 // The type of the query node (Q).

@@ -21,6 +21,7 @@ use Rattle.tables.specs.Fill.{whole}
 use Rattle.tables.specs.Read.{cell, schemaAt}
 use Rattle.tables.proofs.Cells.{counted-append}
 use Rattle.tables.proofs.Schemas.{SchemaTable, has-table, takes-table, member-table}
+use Rattle.index.specs.Buckets.{linksEnd}
 use Rattle.index.proofs.Views.{schema-count}
 use Rattle.tables.proofs.Areas.{edge-count, property-count}
 use Rattle.schema.specs.Held.{SchemaHeld}
@@ -61,9 +62,7 @@ unfolding Ready
 schema-read n rs x ready p = go (ltb n 20) refl
   where
     go : (t : Bool) → ltb n 20 ≡ t → SchemaHeld (x .schema)
-    go true q =
-        let r = (ready .0) p q in
-        subst SchemaHeld (sym (r .held)) (schema-held (length (x .schema)) rs (r .long) (r .fits))
+    go true q = let r = (ready .0) p q in schema-held (x .schema) rs (r .held) (r .fits)
     go false q = (ready .1) p q .schema
 
 pub nodes-read : (rs : List Row) (x : Areas) → GraphReady rs x → NodesHeld (x .nodes)
@@ -145,6 +144,7 @@ module _ {n : ℕ} {s : List ℕ} {x : Areas} {here : ℕ} {c : Counts} (g : Goi
   graph-testable gr =
       record {
         schema = gr .schema;
+        masks = gr .masks;
         nodes = nodes-read (rows s) x gr;
         properties = properties-read (rows s) x gr;
         most = gr .valuesMost;
@@ -205,8 +205,8 @@ module _ {n : ℕ} {s : List ℕ} {x : Areas} {here : ℕ} {c : Counts} (g : Goi
   unfolding countsOf pairCount pairBase
   pair-within sr j k = go (eqb (r .letter) H) (eqb (r .letter) G) (eqb (r .letter) M) refl refl refl
     where
-      l : 14600 ≤ length (x .schema)
-      l = sr .long
+      l : linksEnd ≤ length (x .schema)
+      l = sr .held .long
 
       hc : c .has ≤ 1024
       hc = let q = ap (λ (w : Counts). w .has) (g .counts) in omega (arith, counted-within 4, sr .fits .has)
@@ -233,7 +233,7 @@ module _ {n : ℕ} {s : List ℕ} {x : Areas} {here : ℕ} {c : Counts} (g : Goi
     where
       held : {t head base : ℕ} → SchemaTable t head base → cell (x .schema) head ≡ counted t (rows s)
       held {head = head} t =
-          ap (λ (l : List ℕ). cell l head) (sr .held) ∙ schema-count (length (x .schema)) (rows s) (sr .long) (sr .fits) t
+          schema-count (x .schema) (rows s) (sr .held) (sr .fits) t
 
       go : (a b d : Bool) → eqb (r .letter) H ≡ a → eqb (r .letter) G ≡ b → eqb (r .letter) M ≡ d
           → j < cell (x .schema) (cond (eqb (r .letter) H) 3 (cond (eqb (r .letter) G) 4 5))

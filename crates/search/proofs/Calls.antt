@@ -9,7 +9,7 @@ use Rattle.rules.specs.Text.{Row, noRow, at, valuesOf, P}
 use Rattle.rules.specs.Schema.{is, nth}
 use Rattle.rules.proofs.Clean.{Each}
 use Rattle.tables.specs.Layout.{laid, belongs, counted, allValues, nodeArea, propertyArea, valueArea}
-use Rattle.index.specs.Buckets.{schemaArea}
+use Rattle.index.specs.Buckets.{SchemaStands}
 use Rattle.tables.specs.Fill.{SchemaFits, GraphFits}
 use Rattle.tables.specs.Read.{wideAt}
 use Rattle.tables.proofs.Laid.{laid-length}
@@ -20,24 +20,24 @@ use Rattle.tables.proofs.Areas.{values-before, each-split, node-length, node-co
 use Rattle.tables.proofs.Areas.{property-length, property-count, properties-stand}
 use Rattle.tables.proofs.Schemas.{type-table, field-table, arg-table, has-table, takes-table, member-table}
 use Rattle.index.proofs.Buckets.{has-links, takes-links, member-links, schema-linked}
-use Rattle.index.proofs.Views.{schema-length, schema-count}
+use Rattle.index.proofs.Views.{schema-count}
 use Rattle.schema.specs.Held.{Bucketed, SchemaHeld}
 use Rattle.graph.specs.Held.{NodesHeld, PropertiesHeld}
 
-pub schema-held : (n : ℕ) (rs : List Row) → 14600 ≤ n → SchemaFits rs → SchemaHeld (schemaArea n rs)
+pub schema-held : (a : List ℕ) (rs : List Row) → SchemaStands a rs → SchemaFits rs → SchemaHeld a
 unfolding Bucketed
-schema-held n rs room fits =
+schema-held a rs stands fits =
     record {
-      long = omega (arith, schema-length n rs room fits);
-      types = omega (arith, schema-count n rs room fits type-table, fits .types);
-      fields = omega (arith, schema-count n rs room fits field-table, fits .fields);
-      args = omega (arith, schema-count n rs room fits arg-table, fits .args);
-      has = omega (arith, schema-count n rs room fits has-table, fits .has);
-      takes = omega (arith, schema-count n rs room fits takes-table, fits .takes);
-      members = omega (arith, schema-count n rs room fits member-table, fits .members);
-      hasLinks = schema-linked n rs room fits has-links;
-      takesLinks = schema-linked n rs room fits takes-links;
-      memberLinks = schema-linked n rs room fits member-links;
+      long = stands .long;
+      types = omega (arith, schema-count a rs stands fits type-table, fits .types);
+      fields = omega (arith, schema-count a rs stands fits field-table, fits .fields);
+      args = omega (arith, schema-count a rs stands fits arg-table, fits .args);
+      has = omega (arith, schema-count a rs stands fits has-table, fits .has);
+      takes = omega (arith, schema-count a rs stands fits takes-table, fits .takes);
+      members = omega (arith, schema-count a rs stands fits member-table, fits .members);
+      hasLinks = schema-linked a rs stands fits has-links;
+      takesLinks = schema-linked a rs stands fits takes-links;
+      memberLinks = schema-linked a rs stands fits member-links;
     }
 
 module _ (n : ℕ) (rs : List Row) (room : 15880 ≤ n) (fits : GraphFits rs) (formed : Each Formed rs) where

@@ -1,5 +1,5 @@
 -- Checks 12 to 15: a line of the schema, with the area that holds the schema of all lines. Assumes nothing.
-use Prim.Native.Nat.{ℕ, _≤_}
+use Prim.Native.Nat.{ℕ}
 use native.Mathlib.Omega.{arith}
 use mathlib.Core.Path.{_≡_, refl, sym, ap, ap₂, _∙_, subst}
 use mathlib.Core.Bool.{Bool, true, false, cond, not, _&&_}
@@ -15,7 +15,7 @@ use Rattle.rules.specs.Schema.{is, isType, states, check12, check13, check14, c
 use Rattle.text.specs.Line.{padded}
 use Rattle.text.proofs.Tools.{by-test}
 use Rattle.tables.specs.Layout.{belongs, counted}
-use Rattle.index.specs.Buckets.{schemaArea}
+use Rattle.index.specs.Buckets.{SchemaStands}
 use Rattle.tables.specs.Fill.{SchemaFits}
 use Rattle.tables.specs.Read.{schemaAt, pairAt, pairIn}
 use Rattle.tables.proofs.Those.{those-reverse, any-reverse}
@@ -54,17 +54,17 @@ module _ (a : List ℕ) (ps : List Row) (r : Row) (rs : List Row) where
 
 -- ---- 13: a pair that stands earlier
 
-module _ (n : ℕ) (ps rs : List Row) (room : 14600 ≤ n) (fits : SchemaFits (ps ++ rs)) (u v : ℕ) where
+module _ (a : List ℕ) (ps rs : List Row) (stands : SchemaStands a (ps ++ rs)) (fits : SchemaFits (ps ++ rs)) (u v : ℕ) where
   -- what the rows say of the letter l, and what the area says
   abbrev Paired : ℕ → Type 0
   Paired l =
       (among l (H ∷ G ∷ M ∷ []) && any (states l u v) (reverse ps))
-      ≡ any (pairAt (schemaArea n (ps ++ rs)) (pairBase l) u v) (countUp 0 (pairCount (countsOf ps) l))
+      ≡ any (pairAt a (pairBase l) u v) (countUp 0 (pairCount (countsOf ps) l))
 
   paired : {k base letter : ℕ} → PairTable k base letter
-      → any (states letter u v) (reverse ps) ≡ any (pairAt (schemaArea n (ps ++ rs)) base u v) (countUp 0 (counted k ps))
+      → any (states letter u v) (reverse ps) ≡ any (pairAt a base u v) (countUp 0 (counted k ps))
   unfolding pairIn
-  paired {k} {base} {letter} t = any-reverse (states letter u v) ps ∙ sym (pairs-before n ps rs room fits t u v)
+  paired {k} {base} {letter} t = any-reverse (states letter u v) ps ∙ sym (pairs-before a ps rs stands fits t u v)
 
   has-paired : Paired H
   unfolding pairBase pairCount countsOf
@@ -90,19 +90,17 @@ module _ (n : ℕ) (ps rs : List Row) (room : 14600 ≤ n) (fits : SchemaFits (p
       (λ e. subst Paired (sym (eqb-true l G e)) takes-paired)
       (λ g. by-test (eqb l M) (λ e. subst Paired (sym (eqb-true l M e)) member-paired) (λ m. other-paired l h g m)))
 
-pub split-13 : (a : List ℕ) (ps : List Row) (r : Row) (rs : List Row) → 14600 ≤ length a → SchemaFits (ps ++ r ∷ rs)
-    → a ≡ schemaArea (length a) (ps ++ r ∷ rs)
+pub split-13 : (a : List ℕ) (ps : List Row) (r : Row) (rs : List Row) → SchemaStands a (ps ++ r ∷ rs) → SchemaFits (ps ++ r ∷ rs)
     → fault (check13 (reverse ps) r rs)
     ≡ faultIf
     (any (pairAt a (pairBase (r .letter)) (getD (padded 12 (r .numbers)) 0 0) (getD (padded 12 (r .numbers)) 1 0))
     (countUp 0 (pairCount (countsOf ps) (r .letter))))
     0
-split-13 a ps r rs room fits held =
+split-13 a ps r rs stands fits =
     let l = r .letter in
     let js = countUp 0 (pairCount (countsOf ps) l) in
     one-group (among l (H ∷ G ∷ M ∷ [])) (any (states l (at r 0) (at r 1)) (reverse ps)) 0
-    ∙ ap (λ (b : Bool). faultIf b 0) (pair-split (length a) ps (r ∷ rs) room fits (at r 0) (at r 1) l)
-    ∙ ap (λ (c : List ℕ). faultIf (any (pairAt c (pairBase l) (at r 0) (at r 1)) js) 0) (sym held)
+    ∙ ap (λ (b : Bool). faultIf b 0) (pair-split a ps (r ∷ rs) stands fits (at r 0) (at r 1) l)
     ∙ ap₂ (λ (u v : ℕ). faultIf (any (pairAt a (pairBase l) u v) js) 0)
     (sym (padded-at 12 (r .numbers) 0 (omega arith)))
     (sym (padded-at 12 (r .numbers) 1 (omega arith)))

@@ -55,7 +55,7 @@ module _ (x : Areas) (ps : List Row) (r : Row) (rs : List Row) (next : ℕ) wher
 
   splits-13 : SchemaReady (ps ++ r ∷ rs) x → Splits 13
   unfolding checkBy alone limit clash whole
-  splits-13 h = split-13 (x .schema) ps r rs (h .long) (h .fits) (h .held)
+  splits-13 h = split-13 (x .schema) ps r rs (h .held) (h .fits)
 
   splits-14 : Splits 14
   unfolding checkBy alone limit whole

@@ -16,7 +16,8 @@ use Rattle.rules.specs.Query.{check31}
 use Rattle.rules.proofs.Clean.{Each}
 use Rattle.text.specs.declared.Row.{Row as Read}
 use Rattle.tables.specs.Layout.{belongs, nodeArea, propertyArea, valueArea}
-use Rattle.index.specs.Buckets.{schemaArea, hasFrom, takesFrom, membersFrom}
+use Rattle.index.specs.Buckets.{hasFrom, takesFrom, membersFrom, SchemaStands}
+use Rattle.masks.specs.Masks.{Masked}
 use Rattle.tables.specs.Fill.{lettered, valuesIn, SchemaFits, GraphFits}
 use Rattle.tables.specs.Read.{cell, schemaAt, graphAt, pairAt, valuesAt}
 use Rattle.tables.proofs.Graphs.{Formed}
@@ -165,13 +166,13 @@ nextAsked n a g p x r j = cond (eqb n 13) (pairNext a (r .letter) j) (stepOf n g
 
 -- the schema of the text's own rows (checks 12 to 15)
 pub record SchemaReady (rs : List Row) (x : Areas) : Type 0 where
-  pub long : 14600 ≤ length (x .schema)
   pub fits : SchemaFits rs
-  pub held : x .schema ≡ schemaArea (length (x .schema)) rs
+  pub held : SchemaStands (x .schema) rs
 
--- a schema, and the graph of the text's own rows (checks 22 to 26)
+-- a schema with its masks, and the graph of the text's own rows (checks 22 to 26)
 pub record GraphReady (rs : List Row) (x : Areas) : Type 0 where
   pub schema : SchemaHeld (x .schema)
+  pub masks : Masked (x .schema)
   pub nodesLong : 15880 ≤ length (x .nodes)
   pub propertiesLong : 14344 ≤ length (x .properties)
   pub valuesLong : 8200 ≤ length (x .values)
@@ -219,6 +220,7 @@ SearchedFor n = among n (11 ∷ 12 ∷ 13 ∷ 14 ∷ 15 ∷ 21 ∷ 22 ∷ 23 ∷
 -- a line of a graph, whose areas can be read
 pub record GraphTestable (x : Areas) (c : Counts) (r : Read) : Type 0 where
   pub schema : SchemaHeld (x .schema)
+  pub masks : Masked (x .schema)
   pub nodes : NodesHeld (x .nodes)
   pub properties : PropertiesHeld (x .properties) (x .values)
   pub most : length (x .values) ≤ 16384

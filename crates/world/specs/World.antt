@@ -15,6 +15,7 @@ use mathlib.Core.Bool.{Bool, cond}
 use lib.Dec.{eqb}
 use Rattle.tables.specs.Read.{cell, wideAt, schemaAt, startsAt, valuesAt, graphAt}
 use Rattle.index.specs.Index.{Linked}
+use Rattle.masks.specs.Masks.{Masked}
 use Rattle.schema.specs.Held.{SchemaHeld}
 use Rattle.graph.specs.Held.{NodesHeld, PropertiesHeld}
 use Rattle.graph.specs.Faults.{nodesAt}
@@ -33,8 +34,8 @@ worldAt a g p v = world (schemaAt a) (graphAt g p v)
 unfoldable pub rootAt : List ℕ → List ℕ → ℕ
 rootAt a g = queryNode (schemaAt a) (nodesAt g)
 
--- Areas that evaluation can read: nodes and edges of which every edge leads to a node, with their links; a schema; properties, with
--- their links, and their values.
+-- Areas that evaluation can read: nodes and edges of which every edge leads to a node, with their links; a schema, with its masks;
+-- properties, with their links, and their values.
 pub record EdgesHeld (g x : List ℕ) : Type 0 where
   pub nodes : NodesHeld g
   pub ends : (e : ℕ) → e < cell g 1 → wideAt g 1544 e 4 < cell g 0
@@ -42,6 +43,7 @@ pub record EdgesHeld (g x : List ℕ) : Type 0 where
 
 pub record GraphHeld (a g x : List ℕ) : Type 0 where
   pub schema : SchemaHeld a
+  pub masks : Masked a
   pub edges : EdgesHeld g x
 
 pub record WorldHeld (a g p v x : List ℕ) : Type 0 where

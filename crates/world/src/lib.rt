@@ -5,6 +5,7 @@ ghost use lib.ListN.{length, getD};
 ghost use lib.Dec.{eqb};
 ghost use Rattle.tables.specs.Read.{cell, wideAt, startsAt, valuesAt};
 ghost use Rattle.index.specs.Index.{nodeAt, Linked, OnChain};
+ghost use Rattle.masks.specs.Masks.{Masked};
 ghost use Rattle.schema.specs.Held.{SchemaHeld};
 ghost use Rattle.graph.specs.Held.{NodesHeld, PropertiesHeld};
 ghost use Rattle.query.specs.Entries.{QueryHeld};
@@ -169,7 +170,7 @@ pub fn shape(a: &[u32], g: &[u32], u: u32, f: FieldNo) -> FieldKind
 
 // Whether node u's type is compatible with t.
 pub fn holds(a: &[u32], g: &[u32], u: u32, t: TypeNo) -> bool
-    requires { ⌜ SchemaHeld (now a) ⌝ }
+    requires { ⌜ Masked (now a) ⌝ }
     requires { ⌜ NodesHeld (now g) ⌝ }
     ensures { λ r. ⌜ r ≡ holdsAt (now (a .entry)) (now (g .entry)) u t ⌝ }
 {

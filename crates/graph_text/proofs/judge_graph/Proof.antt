@@ -57,7 +57,7 @@ ready : (c : tie.After-lay-graph) → GraphReady (rows (start-open (from-graph c
     (areas (start-open (from-graph c) .args .a .now) (c .lay-graph .last .1 .0) (c .lay-graph .last .1 .1 .0) (c .lay-graph .last .1 .1 .1 .0))
 ready c =
     let o = start-open (from-graph c) in
-    laid-ready (laid c) (o .args .a .now) (o .pre .0) (o .pre .1 .1 .1 .1 .0) (form-20 (o .args .s .now) (open-text (from-graph c)))
+    laid-ready (laid c) (o .args .a .now) (o .pre .0 .0) (o .pre .0 .1) (o .pre .1 .1 .1 .1 .0) (form-20 (o .args .s .now) (open-text (from-graph c)))
 
 asks-form : tie.Need-judge-form-requires
 asks-form c κs = opens-20

@@ -3,6 +3,7 @@ use native.Mathlib.Omega.{arith}
 use mathlib.Core.Bool.{false}
 use mathlib.Core.Path.{_≡_, refl}
 use borrow.Author.Needs.{needs}
+use Rattle.masks.specs.Masks.{Masked}
 use Rattle.schema.specs.Held.{SchemaHeld}
 use Rattle.judge.specs.Texts.{Lent, lent, tooShortOf}
 use Rattle.judge.proofs.Texts.{enough, schema-refused, held-schema, graph-refused, all-accepted}
@@ -41,8 +42,8 @@ long o =
       query = h .1 .1 .1 .1 .1;
     })
 
--- the schema's area can be read
-schema-ready : (c : tie.Else1) → SchemaHeld (schema-judged c .judge-schema .last .1 .0)
+-- the schema's area can be read, with its masks
+schema-ready : (c : tie.Else1) → let a = schema-judged c .judge-schema .last .1 .0 in SchemaHeld a × Masked a
 schema-ready c =
     let judged = schema-judged c in
     let o = start judged in
@@ -75,7 +76,7 @@ returns-graph c =
 asks-query : tie.Need-judge-query-requires
 asks-query c κs =
     let passed = from-graph (graph-judged (c .before .before)) in
-    (schema-ready passed, start (schema-judged passed) .pre .1 .1 .1 .1 .1)
+    (schema-ready passed .0, start (schema-judged passed) .pre .1 .1 .1 .1 .1)
 
 returns-query : tie.Need-returns-3
 unfolding lent

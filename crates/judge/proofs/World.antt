@@ -19,7 +19,7 @@ use Rattle.tables.specs.Fill.{SchemaFits}
 use Rattle.tables.specs.Read.{schemaAt, graphAt}
 use Rattle.bits.specs.Bits.{bit}
 use Rattle.masks.specs.Masks.{membersOf, maskAt, MembersSound}
-use Rattle.masks.proofs.Members.{bit-member, bit-undeclared, bit-far}
+use Rattle.masks.proofs.Membership.{bit-member, bit-undeclared, bit-far}
 use Rattle.masks.proofs.Agreeing.{area-view, area-members}
 use Rattle.tables.proofs.Graphs.{graph-view, graph-formed}
 use Rattle.checks.specs.declared.Verdict.{Verdict}

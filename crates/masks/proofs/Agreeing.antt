@@ -6,7 +6,6 @@ use mathlib.Core.Path.{_≡_, refl, sym, ap, _∙_, subst}
 use mathlib.Core.Bool.{Bool}
 use mathlib.Core.List.{List}
 use lib.ListN.{length}
-use borrow.Author.Tests.{le-ltb}
 use Rattle.rules.specs.Text.{Row}
 use Rattle.rules.specs.Schema.{Schema, schemaOf}
 use Rattle.rules.specs.declared.TypeNo.{TypeNo}
@@ -20,7 +19,8 @@ use Rattle.index.proofs.Views.{schema-count, schema-view}
 use Rattle.masks.specs.Masks.{memberOf, membersOf, MembersSound, schemaNeeded, masked, schemaArea, maskAt, Masked}
 use Rattle.masks.specs.Join.{Maskable}
 use Rattle.masks.proofs.Masks.{masked-length, masked-front, masked-mask}
-use Rattle.masks.proofs.Members.{none-far}
+use Rattle.masks.proofs.Membership.{none-far}
+use Rattle.masks.proofs.Reading.{mask-none}
 
 module _ (n : ℕ) (rs : List Row) (room : schemaNeeded ≤ n) (fits : SchemaFits rs) where
   -- ---- before the masks are laid
@@ -81,11 +81,7 @@ module _ (n : ℕ) (rs : List Row) (room : schemaNeeded ≤ n) (fits : SchemaFit
       where
         go : Dec (t .0 < 64) → maskAt (schemaArea n rs) (t .0) ≡ membersOf (schemaOf rs) t
         go (yes h) = masked-mask said (schemaLinked n rs) linked-long (t .0) h
-        go (no h) = far (schemaArea n rs) (t .0) (omega arith) ∙ sym (none-far (schemaOf rs) sound t (omega arith))
-          where
-            far : (a : List ℕ) (x : ℕ) → 64 ≤ x → maskAt a x ≡ 0
-            unfolding maskAt
-            far a x l = rw (le-ltb x 64 l)
+        go (no h) = sym (mask-none (schemaArea n rs) (t .0) (omega arith)) ∙ sym (none-far (schemaOf rs) sound t (omega arith))
 
     pub area-masked : Masked (schemaArea n rs)
     unfolding Masked

@@ -25,7 +25,7 @@ use Rattle.masks.specs.Join.{withMask, joined, letterAt, typeAt, objectA
 use Rattle.masks.specs.Join.{objectsJoined, membersJoined, Joinable, Maskable}
 use Rattle.masks.proofs.Masks.{masked-length, masked-front, masked-behind, masked-low, masked-high, masked-mask, masked-is}
 use Rattle.masks.proofs.Masks.{masked-same, masked-none}
-use Rattle.masks.proofs.Members.{rule, object-declared, members-declared, object-given}
+use Rattle.masks.proofs.Membership.{rule, object-declared, members-declared, object-given}
 
 -- ---- tests
 
@@ -48,6 +48,10 @@ any-more p i zero = or-none (p i) ∙ ap p (omega arith)
 any-more p i (suc n) =
     ap (λ (b : Bool). p i || b) (any-more p (suc i) n ∙ ap (λ (k : ℕ). any p (countUp (suc i) n) || p k) (omega arith))
     ∙ sym (or-group (p i) (any p (countUp (suc i) n)) (p (i + suc n)))
+
+-- the next of the first n
+next-any : (p : ℕ → Bool) (n : ℕ) → any p (countUp 0 (suc n)) ≡ (any p (countUp 0 n) || p n)
+next-any p n = any-more p 0 n ∙ ap (λ (k : ℕ). any p (countUp 0 n) || p k) (omega arith)
 
 -- ---- one bit
 
@@ -253,13 +257,13 @@ module _ (a : List ℕ) (room : schemaNeeded ≤ length a) where
       more : eqb (letterAt a n) O ≡ true → (x y : ℕ) → withOne (ownTo a n) n n x y ≡ ownTo a (suc n) x y
       more g x y =
           ap (λ (d : Bool). ownTo a n x y || (d && (eqb n x && eqb n y))) (sym g)
-          ∙ sym (any-more (ownAt a x y) 0 n)
+          ∙ sym (next-any (ownAt a x y) n)
 
       less : eqb (letterAt a n) O ≡ false → (x y : ℕ) → ownTo a n x y ≡ ownTo a (suc n) x y
       less g x y =
           sym (or-none (ownTo a n x y))
           ∙ ap (λ (d : Bool). ownTo a n x y || (d && (eqb n x && eqb n y))) (sym g)
-          ∙ sym (any-more (ownAt a x y) 0 n)
+          ∙ sym (next-any (ownAt a x y) n)
 
   pub members-masked : (n m : ℕ) → m ≤ 1024 → ((j : ℕ) → j < m → (typeAt a j < 64) × (objectAt a j < 64))
       → membersJoined (masked (ownTo a n) a) m ≡ masked (joinsTo a n m) a
@@ -275,7 +279,7 @@ module _ (a : List ℕ) (room : schemaNeeded ≤ length a) where
       ∙ mask-joined p a room t o (both .0) (both .1)
       ∙ masked-same _ _ a room (λ x y l k.
       or-group (ownTo a n x y) (any (pairAt a 6920 x y) (countUp 0 m)) (pairAt a 6920 x y m)
-      ∙ ap (λ (d : Bool). ownTo a n x y || d) (sym (any-more (pairAt a 6920 x y) 0 m)))
+      ∙ ap (λ (d : Bool). ownTo a n x y || d) (sym (next-any (pairAt a 6920 x y) m)))
 
 -- ---- what the tables ask for is what the rule says
 

@@ -1,5 +1,5 @@
 pub mod Masks
-pub mod Members
+pub mod Membership
 pub mod Reading
 pub mod Joining
 pub mod Agreeing

@@ -2,4 +2,4 @@ pub mod Letters
 pub mod Searching
 pub mod Following
 pub mod Checks
-pub mod Membership
+pub mod Compatible

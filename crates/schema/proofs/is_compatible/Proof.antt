@@ -1,6 +1,6 @@
 -- `schema::is_compatible` meets its contract. Assumes nothing.
 use borrow.Author.Needs.{needs}
-use Rattle.schema.proofs.Membership.{itself-compatible, bit-compatible}
+use Rattle.schema.proofs.Compatible.{itself-compatible, bit-compatible}
 use Rattle.schema.proofs.is_compatible.Statement.{statement}
 use Rattle.schema.proofs.is_compatible.Tie as tie
 

@@ -9,7 +9,7 @@ use Rattle.rules.specs.declared.TypeNo.{TypeNo}
 use Rattle.bits.specs.Bits.{bit}
 use Rattle.tables.specs.Read.{schemaAt}
 use Rattle.masks.specs.Masks.{membersOf, Masked}
-use Rattle.masks.proofs.Members.{bit-other}
+use Rattle.masks.proofs.Membership.{bit-other}
 
 module _ (a : List ℕ) (o t : TypeNo) where
   -- a type is compatible with itself

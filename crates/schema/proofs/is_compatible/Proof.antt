@@ -11,4 +11,4 @@ by-mask : tie.Need-returns-2
 by-mask c = search (bit-compatible, needs)
 
 pub is-compatible-spec : {M : Type 1} → statement M
-is-compatible-spec = tie.close (tie.spec itself (λ c κs. search needs) by-mask)
+is-compatible-spec = tie.close (tie.spec itself (λ c κs. search needs) (λ c κs. search needs) by-mask)

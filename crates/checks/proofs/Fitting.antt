@@ -91,34 +91,37 @@ abbrev MemberSound : Schema → Row → Type 0
 MemberSound s r = is M r ≡ true → (hasMembers s (typeNo (at r 0)) ≡ true) × (isObject s (typeNo (at r 1)) ≡ true)
 
 -- the schema of rows that pass 11 and 12 has sound members
-pub members-sound : (rs : List Row) → SchemaFits rs → firstLine (check12 (schemaOf rs)) rs ≡ none → MembersSound (schemaOf rs)
-members-sound rs fits h = record { below = below; given = given }
-  where
-    below : (t : TypeNo) → (kind (schemaOf rs) t ≡ 0 → ⊥) → t .0 < 64
-    unfolding counted belongs
-    below t declared =
-        by-order (t .0) 64 (λ l. l)
-        (λ l. absurd (declared (ap (λ (r : Row). r .letter) (List·getD-eq-default (those isType rs) noRow (omega (arith, fits .types))))))
+module _ (rs : List Row) (fits : SchemaFits rs) (h : firstLine (check12 (schemaOf rs)) rs ≡ none) where
+  abbrev s : Schema
+  s = schemaOf rs
 
-    each-sound : Each (MemberSound (schemaOf rs)) rs
-    each-sound =
-        clean-each (check12 (schemaOf rs)) (MemberSound (schemaOf rs))
-        (λ b r a c e. let m = (c .1 .1 .1 .1 .1 .0) e in
-        (not-false (hasMembers (schemaOf rs) (typeNo (at r 0))) (m .0), not-false (isObject (schemaOf rs) (typeNo (at r 1))) (m .1 .0)))
-        [] rs (clean (check12 (schemaOf rs)) [] 1 rs h)
+  declared-below : (t : TypeNo) → (kind s t ≡ 0 → ⊥) → t .0 < 64
+  unfolding counted belongs
+  declared-below t declared =
+      by-order (t .0) 64 (λ l. l)
+      (λ l. absurd (declared (ap (λ (r : Row). r .letter) (List·getD-eq-default (those isType rs) noRow (omega (arith, fits .types))))))
 
-    given : (t o : TypeNo) → (schemaOf rs .hasMember) t o ≡ true → (hasMembers (schemaOf rs) t ≡ true) × (isObject (schemaOf rs) o ≡ true)
-    given t o g =
-        let found = any-each (MemberSound (schemaOf rs)) (states M (t .0) (o .0)) rs each-sound g in
-        let r : Row = found .0 in
-        let is-member = and-true-left (is M r) (eqb (at r 0) (t .0) && eqb (at r 1) (o .0)) (found .1 .1) in
-        let pair = and-true-right (is M r) (eqb (at r 0) (t .0) && eqb (at r 1) (o .0)) (found .1 .1) in
-        let first = eqb-true (at r 0) (t .0) (and-true-left (eqb (at r 0) (t .0)) (eqb (at r 1) (o .0)) pair) in
-        let second = eqb-true (at r 1) (o .0) (and-true-right (eqb (at r 0) (t .0)) (eqb (at r 1) (o .0)) pair) in
-        let kinds = (found .1 .0) is-member in (
-          subst (λ (u : ℕ). hasMembers (schemaOf rs) (typeNo u) ≡ true) first (kinds .0),
-          subst (λ (u : ℕ). isObject (schemaOf rs) (typeNo u) ≡ true) second (kinds .1),
-        )
+  each-sound : Each (MemberSound s) rs
+  each-sound =
+      clean-each (check12 s) (MemberSound s)
+      (λ b r a c e. let m = (c .1 .1 .1 .1 .1 .0) e in
+      (not-false (hasMembers s (typeNo (at r 0))) (m .0), not-false (isObject s (typeNo (at r 1))) (m .1 .0)))
+      [] rs (clean (check12 s) [] 1 rs h)
+
+  member-given : (t o : TypeNo) → (s .hasMember) t o ≡ true → (hasMembers s t ≡ true) × (isObject s o ≡ true)
+  member-given t o g =
+      let found = any-each (MemberSound s) (states M (t .0) (o .0)) rs each-sound g in
+      let r : Row = found .0 in
+      let numbers = and-true-right (is M r) (eqb (at r 0) (t .0) && eqb (at r 1) (o .0)) (found .1 .1) in
+      let first = eqb-true (at r 0) (t .0) (and-true-left (eqb (at r 0) (t .0)) (eqb (at r 1) (o .0)) numbers) in
+      let second = eqb-true (at r 1) (o .0) (and-true-right (eqb (at r 0) (t .0)) (eqb (at r 1) (o .0)) numbers) in
+      let kinds = (found .1 .0) (and-true-left (is M r) (eqb (at r 0) (t .0) && eqb (at r 1) (o .0)) (found .1 .1)) in (
+        subst (λ (u : ℕ). hasMembers s (typeNo u) ≡ true) first (kinds .0),
+        subst (λ (u : ℕ). isObject s (typeNo u) ≡ true) second (kinds .1),
+      )
+
+  pub members-sound : MembersSound s
+  members-sound = record { below = declared-below; given = member-given }
 
 -- ---- the graph
 

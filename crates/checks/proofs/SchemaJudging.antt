@@ -78,9 +78,9 @@ pub opens-10 : Opens 10
 unfolding Opens
 opens-10 = refl
 
-later-numbers : {s : List ℕ} → Each Positive (laterSchema s)
+later-numbers : (s : List ℕ) → Each Positive (laterSchema s)
 unfolding laterSchema
-later-numbers = (omega arith, (omega arith, (omega arith, (omega arith, (omega arith, tt)))))
+later-numbers s = (omega arith, (omega arith, (omega arith, (omega arith, (omega arith, tt)))))
 
 abbrev number : Verdict → ℕ
 number v = v .number
@@ -126,7 +126,7 @@ module _ (s : List ℕ) (n : ℕ) {b : Verdict} (form : b ≡ judged (formChecks
   module _ (y : v .number ≡ 0) where
     sound : MembersSound (schemaOf (rows s))
     unfolding laterSchema
-    sound = members-sound (rows s) fits (passed (laterSchema s) later-numbers (ap number (sym j) ∙ y) .0)
+    sound = members-sound (rows s) fits (passed (laterSchema s) (later-numbers s) (ap number (sym j) ∙ y) .0)
 
     -- the masks can be laid
     pub laid-maskable : Maskable a

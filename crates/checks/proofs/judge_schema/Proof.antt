@@ -1,17 +1,33 @@
--- `checks::judge_schema` meets its contract: a text that passes 10 and 11 fits the area, and what is laid out there can be searched.
--- Assumes nothing.
+-- `checks::judge_schema` meets its contract: a text that passes 10 and 11 fits the area, what is laid out there can be searched, and once 12
+-- has passed the masks can be laid. Assumes nothing.
 use mathlib.Core.Path.{refl}
 use borrow.Author.Needs.{needs}
 use Rattle.checks.proofs.Opening.{Opened, opened}
-use Rattle.checks.proofs.SchemaJudging.{opens-10, fits-11, laid-ready, refused, accepted}
+use Rattle.checks.proofs.SchemaJudging.{opens-10, fits-11, laid-ready, refused, refused-rows, laid-maskable, accepted}
 use Rattle.checks.proofs.judge_schema.Statement.{statement}
 use Rattle.checks.proofs.judge_schema.Tie as tie
 
+-- each place from the one behind it
 abbrev start : tie.After-judge-form → tie.Start
 start c = c .before .before .before .before
 
-open-text : (c : tie.Else1) → Opened 10 (start (c .before .before) .args .s .now)
-open-text c = opened 10 opens-10 _ (c .before .before .judge-form .ensures) (c .if1 .left)
+abbrev from-form : tie.Else1 → tie.After-judge-form
+from-form c = c .before .before
+
+abbrev from-open : tie.After-lay-schema → tie.Else1
+from-open c = c .before .before
+
+abbrev from-laid : tie.After-judge-schema-rows → tie.After-lay-schema
+from-laid c = c .before .before .before .before
+
+abbrev from-rows : tie.Else2 → tie.After-judge-schema-rows
+from-rows c = c .before .before
+
+abbrev first : tie.Else1 → tie.Start
+first c = start (from-form c)
+
+open-text : (c : tie.Else1) → Opened 10 (first c .args .s .now)
+open-text c = opened 10 opens-10 _ (from-form c .judge-form .ensures) (c .if1 .left)
 
 asks-form : tie.Need-judge-form-requires
 asks-form c κs = opens-10
@@ -23,25 +39,43 @@ returns-early c =
 
 asks-to-lay : tie.Need-lay-schema-requires
 asks-to-lay c κs =
-    let o = start (c .before .before .before) in
-    let text = open-text (c .before) in
-    (text .short, (text .plain, (fits-11 (o .args .s .now) text, o .pre)))
+    let here = c .before in
+    let text = open-text here in
+    (text .short, (text .plain, (fits-11 (first here .args .s .now) text, search needs)))
 
 asks-rows : tie.Need-judge-schema-rows-requires
 asks-rows c κs =
     let laid = c .before .before .before in
-    let o = start (laid .before .before .before .before) in
-    let text = open-text (laid .before .before) in
+    let o = first (from-open laid) in
+    let text = open-text (from-open laid) in
     (text .short, (text .plain, laid-ready (o .args .s .now) _ _ (o .pre) text (laid .lay-schema .ensures)))
 
 returns-rows : tie.Need-returns-2
 returns-rows c =
-    let laid = c .before .before .before .before in
-    let passed = laid .before .before in
-    let form = passed .before .before in
-    let o = start form in
-    accepted (o .args .s .now) _ _ (form .judge-form .ensures) (passed .if1 .left) (o .pre) (laid .lay-schema .ensures)
-    (c .judge-schema-rows .ensures)
+    let rows = c .before .before in
+    let laid = from-laid rows in
+    let here = from-open laid in
+    refused-rows (first here .args .s .now) _ (from-form here .judge-form .ensures) (here .if1 .left) (first here .pre) _
+    (laid .lay-schema .ensures) (rows .judge-schema-rows .ensures) (c .if2 .taken)
+
+asks-masks : tie.Need-lay-masks-requires
+asks-masks c κs =
+    let passed = c .before in
+    let rows = from-rows passed in
+    let laid = from-laid rows in
+    let here = from-open laid in
+    laid-maskable (first here .args .s .now) _ (from-form here .judge-form .ensures) (here .if1 .left) (first here .pre) _
+    (laid .lay-schema .ensures) (rows .judge-schema-rows .ensures) (passed .if2 .left)
+
+returns-masked : tie.Need-returns-3
+returns-masked c =
+    let masks = c .before .before in
+    let passed = masks .before .before in
+    let rows = from-rows passed in
+    let laid = from-laid rows in
+    let here = from-open laid in
+    accepted (first here .args .s .now) _ (from-form here .judge-form .ensures) (here .if1 .left) (first here .pre) _
+    (laid .lay-schema .ensures) (rows .judge-schema-rows .ensures) (passed .if2 .left) _ (masks .lay-masks .ensures)
 
 pub judge-schema-spec : {M : Type 1} → statement M
 judge-schema-spec =
@@ -53,4 +87,7 @@ judge-schema-spec =
     asks-to-lay
     asks-rows
     (λ c. search needs)
-    returns-rows)
+    returns-rows
+    asks-masks
+    (λ c. search needs)
+    returns-masked)

@@ -84,7 +84,7 @@ returns-15 c =
 
 reads-16 : tie.Need-shared-slice-read-if5
 unfolding areas
-reads-16 c = omega (arith, start-15 (c .before .before .before) .pre .1 .1 .long)
+reads-16 c = omega (arith, start-15 (c .before .before .before) .pre .1 .1 .held .long)
 
 returns-16 : tie.Need-returns-5
 unfolding cell

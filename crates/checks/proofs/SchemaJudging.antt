@@ -109,30 +109,39 @@ module _ (s area : List ℕ) (n : ℕ) {b : Verdict} (form : b ≡ judged (formC
   unfolding formsOf formChecks maximaOf laterSchema
   refused l h = record { is = opening-refused 10 opens-10 s form (laterSchema s) h; long = l; held = λ z. absurd (h z) }
 
--- the verdict on the rows, in the area laid out
-module _ (s : List ℕ) (n : ℕ) {b : Verdict} (form : b ≡ judged (formChecks 10 s)) (z : b .number ≡ 0) (room : schemaNeeded ≤ n)
-    (a : List ℕ) (laid : a ≡ schemaLinked n (rows s)) {v : Verdict} (j : v ≡ judged (laterSchema s)) where
-  fits : SchemaFits (rows s)
-  fits = fits-11 s (opened 10 opens-10 s form z)
+-- The area a, of length n, laid out of a text on which the verdict by 10 and 11 is b, and the verdict v on its rows.
+pub record RowsJudged (s : List ℕ) (n : ℕ) (a : List ℕ) (b v : Verdict) : Type 0 where
+  pub form : b ≡ judged (formChecks 10 s)
+  pub kept : b .number ≡ 0
+  pub room : schemaNeeded ≤ n
+  pub laid : a ≡ schemaLinked n (rows s)
+  pub is : v ≡ judged (laterSchema s)
 
-  -- is the whole one
+module _ {s : List ℕ} {n : ℕ} {a : List ℕ} {b v : Verdict} (j : RowsJudged s n a b v) where
+  fits : SchemaFits (rows s)
+  fits = fits-11 s (opened 10 opens-10 s (j .form) (j .kept))
+
+  -- the verdict on the rows is the whole one
   whole : v ≡ judged (schemaChecks s)
   unfolding formsOf formChecks maximaOf laterSchema
-  whole = j ∙ sym (opening-past 10 opens-10 s form z (laterSchema s))
+  whole = j .is ∙ sym (opening-past 10 opens-10 s (j .form) (j .kept) (laterSchema s))
 
   pub refused-rows : (v .number ≡ 0 → ⊥) → SchemaJudged s n a v
-  refused-rows h = record { is = whole; long = ap length laid ∙ linked-length n (rows s) room fits; held = λ y. absurd (h y) }
+  refused-rows h =
+      record { is = whole; long = ap length (j .laid) ∙ linked-length n (rows s) (j .room) fits; held = λ y. absurd (h y) }
 
   module _ (y : v .number ≡ 0) where
     sound : MembersSound (schemaOf (rows s))
     unfolding laterSchema
-    sound = members-sound (rows s) fits (passed (laterSchema s) (later-numbers s) (ap number (sym j) ∙ y) .0)
+    sound = members-sound (rows s) fits (passed (laterSchema s) (later-numbers s) (ap number (sym (j .is)) ∙ y) .0)
 
     -- the masks can be laid
     pub laid-maskable : Maskable a
-    laid-maskable = subst Maskable (sym laid) (linked-maskable n (rows s) room fits sound)
+    laid-maskable = subst Maskable (sym (j .laid)) (linked-maskable n (rows s) (j .room) fits sound)
 
     pub accepted : (area : List ℕ) → area ≡ masked (memberOf (schemaAt a)) a → SchemaJudged s n area v
     accepted area e =
-        let held = masks-laid n (rows s) room fits area (e ∙ ap (λ (x : List ℕ). masked (memberOf (schemaAt x)) x) laid) in
-        record { is = whole; long = ap length held ∙ area-length n (rows s) room fits; held = λ _. held }
+        let linked : area ≡ masked (memberOf (schemaAt (schemaLinked n (rows s)))) (schemaLinked n (rows s)) =
+        e ∙ ap (λ (x : List ℕ). masked (memberOf (schemaAt x)) x) (j .laid) in
+        let held = masks-laid n (rows s) (j .room) fits area linked in
+        record { is = whole; long = ap length held ∙ area-length n (rows s) (j .room) fits; held = λ _. held }

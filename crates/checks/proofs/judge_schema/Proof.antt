@@ -1,9 +1,10 @@
 -- `checks::judge_schema` meets its contract: a text that passes 10 and 11 fits the area, what is laid out there can be searched, and once 12
 -- has passed the masks can be laid. Assumes nothing.
 use mathlib.Core.Path.{refl}
+use lib.ListN.{length}
 use borrow.Author.Needs.{needs}
 use Rattle.checks.proofs.Opening.{Opened, opened}
-use Rattle.checks.proofs.SchemaJudging.{opens-10, fits-11, laid-ready, refused, refused-rows, laid-maskable, accepted}
+use Rattle.checks.proofs.SchemaJudging.{opens-10, fits-11, laid-ready, refused, RowsJudged, refused-rows, laid-maskable, accepted}
 use Rattle.checks.proofs.judge_schema.Statement.{statement}
 use Rattle.checks.proofs.judge_schema.Tie as tie
 
@@ -50,32 +51,32 @@ asks-rows c κs =
     let text = open-text (from-open laid) in
     (text .short, (text .plain, laid-ready (o .args .s .now) _ _ (o .pre) text (laid .lay-schema .ensures)))
 
-returns-rows : tie.Need-returns-2
-returns-rows c =
-    let rows = c .before .before in
-    let laid = from-laid rows in
+-- the area is laid out, and its rows are judged
+judged-rows : (c : tie.After-judge-schema-rows) → let laid = from-laid c in let form = from-form (from-open laid) in
+    RowsJudged (start form .args .s .now) (length (start form .args .a .now)) (laid .lay-schema .last .1 .0) (form .judge-form .result)
+    (c .judge-schema-rows .result)
+judged-rows c =
+    let laid = from-laid c in
     let here = from-open laid in
-    refused-rows (first here .args .s .now) _ (from-form here .judge-form .ensures) (here .if1 .left) (first here .pre) _
-    (laid .lay-schema .ensures) (rows .judge-schema-rows .ensures) (c .if2 .taken)
+    record {
+      form = from-form here .judge-form .ensures;
+      kept = here .if1 .left;
+      room = first here .pre;
+      laid = laid .lay-schema .ensures;
+      is = c .judge-schema-rows .ensures;
+    }
+
+returns-rows : tie.Need-returns-2
+returns-rows c = refused-rows (judged-rows (c .before .before)) (c .if2 .taken)
 
 asks-masks : tie.Need-lay-masks-requires
-asks-masks c κs =
-    let passed = c .before in
-    let rows = from-rows passed in
-    let laid = from-laid rows in
-    let here = from-open laid in
-    laid-maskable (first here .args .s .now) _ (from-form here .judge-form .ensures) (here .if1 .left) (first here .pre) _
-    (laid .lay-schema .ensures) (rows .judge-schema-rows .ensures) (passed .if2 .left)
+asks-masks c κs = laid-maskable (judged-rows (from-rows (c .before))) (c .before .if2 .left)
 
 returns-masked : tie.Need-returns-3
 returns-masked c =
     let masks = c .before .before in
     let passed = masks .before .before in
-    let rows = from-rows passed in
-    let laid = from-laid rows in
-    let here = from-open laid in
-    accepted (first here .args .s .now) _ (from-form here .judge-form .ensures) (here .if1 .left) (first here .pre) _
-    (laid .lay-schema .ensures) (rows .judge-schema-rows .ensures) (passed .if2 .left) _ (masks .lay-masks .ensures)
+    accepted (judged-rows (from-rows passed)) (passed .if2 .left) _ (masks .lay-masks .ensures)
 
 pub judge-schema-spec : {M : Type 1} → statement M
 judge-schema-spec =

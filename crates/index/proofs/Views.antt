@@ -2,9 +2,9 @@
 use Prim.Native.Nat.{ℕ, _+_, _≤_, _<_}
 use native.Mathlib.Omega.{arith}
 use mathlib.Core.Path.{_≡_, refl, sym, ap, _∙_, fun-ext}
-use mathlib.Core.Bool.{Bool, true, false}
+use mathlib.Core.Bool.{Bool, true, false, _&&_}
 use mathlib.Core.List.{List, [], _∷_, _++_, map, append-nil}
-use lib.Dec.{ltb}
+use lib.Dec.{eqb, ltb}
 use lib.ListN.{length, getD, List·getD-eq-default}
 use borrow.Author.Tests.{ltb-true, ltb-false}
 use Rattle.rules.specs.Lists.{those, any}
@@ -37,33 +37,41 @@ module _ (a : List ℕ) (rs : List Row) (stands : SchemaStands a rs) (fits : Sch
 -- ---- pairs among the first lines
 
 -- the tables of pairs, with their letters
-pub data PairTable : ℕ → ℕ → ℕ → Type 0 where
-  has-pairs : PairTable 4 776 H
-  takes-pairs : PairTable 5 3848 G
-  member-pairs : PairTable 6 6920 M
+pub data PairTable : ℕ → ℕ → ℕ → ℕ → Type 0 where
+  has-pairs : PairTable 4 3 776 H
+  takes-pairs : PairTable 5 4 3848 G
+  member-pairs : PairTable 6 5 6920 M
 
-module _ (a : List ℕ) (ps rs : List Row) (stands : SchemaStands a (ps ++ rs)) (fits : SchemaFits (ps ++ rs)) where
-  pub pairs-before : {k base letter : ℕ} → PairTable k base letter → (x y : ℕ)
-      → pairIn a base (counted k ps) x y ≡ any (states letter x y) ps
-  unfolding belongs
-  pairs-before has-pairs x y = pairs-in a 4 776 ps rs (schema-stands a (ps ++ rs) stands fits has-table) x y
-  pairs-before takes-pairs x y = pairs-in a 5 3848 ps rs (schema-stands a (ps ++ rs) stands fits takes-table) x y
-  pairs-before member-pairs x y = pairs-in a 6 6920 ps rs (schema-stands a (ps ++ rs) stands fits member-table) x y
+pair-table : {k head base letter : ℕ} → PairTable k head base letter → SchemaTable k head base
+pair-table has-pairs = has-table
+pair-table takes-pairs = takes-table
+pair-table member-pairs = member-table
+
+pair-letter : {k head base letter : ℕ} → PairTable k head base letter → belongs k ≡ is letter
+unfolding belongs
+pair-letter has-pairs = fun-ext (λ r. refl)
+pair-letter takes-pairs = fun-ext (λ r. refl)
+pair-letter member-pairs = fun-ext (λ r. refl)
+
+module _ (a : List ℕ) (ps rs : List Row) (stands : SchemaStands a (ps ++ rs)) (fits : SchemaFits (ps ++ rs))
+    {k head base letter : ℕ} (t : PairTable k head base letter) where
+  here : Stands a k base (ps ++ rs)
+  here = schema-stands a (ps ++ rs) stands fits (pair-table t)
+
+  pub pairs-before : (x y : ℕ) → pairIn a base (counted k ps) x y ≡ any (states letter x y) ps
+  pairs-before x y =
+      pairs-in a k base ps rs here x y
+      ∙ ap (λ (p : Row → Bool). any (λ r. p r && (eqb (at r 0) x && eqb (at r 1) y)) ps) (pair-letter t)
 
   -- the rows with a first number, and their second numbers
-  pub firsts-before : {k base letter : ℕ} → PairTable k base letter → (x : ℕ)
-      → firstIn a base (counted k ps) x ≡ any (begins letter x) ps
-  unfolding belongs
-  firsts-before has-pairs x = firsts-in a 4 776 ps rs (schema-stands a (ps ++ rs) stands fits has-table) x
-  firsts-before takes-pairs x = firsts-in a 5 3848 ps rs (schema-stands a (ps ++ rs) stands fits takes-table) x
-  firsts-before member-pairs x = firsts-in a 6 6920 ps rs (schema-stands a (ps ++ rs) stands fits member-table) x
+  pub firsts-before : (x : ℕ) → firstIn a base (counted k ps) x ≡ any (begins letter x) ps
+  firsts-before x =
+      firsts-in a k base ps rs here x ∙ ap (λ (p : Row → Bool). any (λ r. p r && eqb (at r 0) x) ps) (pair-letter t)
 
-  pub seconds-before : {k base letter : ℕ} → PairTable k base letter → (x : ℕ)
-      → secondsIn a base (counted k ps) x ≡ map (λ r. at r 1) (those (begins letter x) ps)
-  unfolding belongs
-  seconds-before has-pairs x = seconds-in a 4 776 ps rs (schema-stands a (ps ++ rs) stands fits has-table) x
-  seconds-before takes-pairs x = seconds-in a 5 3848 ps rs (schema-stands a (ps ++ rs) stands fits takes-table) x
-  seconds-before member-pairs x = seconds-in a 6 6920 ps rs (schema-stands a (ps ++ rs) stands fits member-table) x
+  pub seconds-before : (x : ℕ) → secondsIn a base (counted k ps) x ≡ map (λ r. at r 1) (those (begins letter x) ps)
+  seconds-before x =
+      seconds-in a k base ps rs here x
+      ∙ ap (λ (p : Row → Bool). map (λ r. at r 1) (those (λ r. p r && eqb (at r 0) x) ps)) (pair-letter t)
 
 -- ---- the whole schema
 
@@ -99,17 +107,15 @@ module _ (a : List ℕ) (rs : List Row) (stands : SchemaStands a rs) (fits : Sch
       → ask (counted k rs) ≡ x → ask (cell a head) ≡ x
   all-rows t ask x e = ap ask (schema-count a rs stands fits t) ∙ e
 
-  pairs-all : {k head base letter : ℕ} → SchemaTable k head base → PairTable k base letter → (x y : ℕ)
-      → pairIn a base (cell a head) x y ≡ any (states letter x y) rs
-  pairs-all {base = base} t p x y = all-rows t (λ c. pairIn a base c x y) _ (pairs-before a rs [] whole-stands whole-fits p x y)
+  module _ {k head base letter : ℕ} (t : PairTable k head base letter) where
+    pairs-all : (x y : ℕ) → pairIn a base (cell a head) x y ≡ any (states letter x y) rs
+    pairs-all x y = all-rows (pair-table t) (λ c. pairIn a base c x y) _ (pairs-before a rs [] whole-stands whole-fits t x y)
 
-  firsts-all : {k head base letter : ℕ} → SchemaTable k head base → PairTable k base letter → (x : ℕ)
-      → firstIn a base (cell a head) x ≡ any (begins letter x) rs
-  firsts-all {base = base} t p x = all-rows t (λ c. firstIn a base c x) _ (firsts-before a rs [] whole-stands whole-fits p x)
+    firsts-all : (x : ℕ) → firstIn a base (cell a head) x ≡ any (begins letter x) rs
+    firsts-all x = all-rows (pair-table t) (λ c. firstIn a base c x) _ (firsts-before a rs [] whole-stands whole-fits t x)
 
-  seconds-all : {k head base letter : ℕ} → SchemaTable k head base → PairTable k base letter → (x : ℕ)
-      → secondsIn a base (cell a head) x ≡ map (λ r. at r 1) (those (begins letter x) rs)
-  seconds-all {base = base} t p x = all-rows t (λ c. secondsIn a base c x) _ (seconds-before a rs [] whole-stands whole-fits p x)
+    seconds-all : (x : ℕ) → secondsIn a base (cell a head) x ≡ map (λ r. at r 1) (those (begins letter x) rs)
+    seconds-all x = all-rows (pair-table t) (λ c. secondsIn a base c x) _ (seconds-before a rs [] whole-stands whole-fits t x)
 
   same-kind : schemaAt a .kind ≡ schemaOf rs .kind
   unfolding schemaAt narrow belongs
@@ -145,24 +151,24 @@ module _ (a : List ℕ) (rs : List Row) (stands : SchemaStands a rs) (fits : Sch
 
   same-has : schemaAt a .hasField ≡ schemaOf rs .hasField
   unfolding schemaAt
-  same-has = fun-ext (λ t. fun-ext (λ f. pairs-all has-table has-pairs (t .0) (f .0)))
+  same-has = fun-ext (λ t. fun-ext (λ f. pairs-all has-pairs (t .0) (f .0)))
 
   same-fields-of : schemaAt a .fieldsOf ≡ schemaOf rs .fieldsOf
   unfolding schemaAt
   same-fields-of =
-      fun-ext (λ t. ap (map fieldNo) (seconds-all has-table has-pairs (t .0)) ∙ map-map fieldNo (λ r. at r 1) (those (begins H (t .0)) rs))
+      fun-ext (λ t. ap (map fieldNo) (seconds-all has-pairs (t .0)) ∙ map-map fieldNo (λ r. at r 1) (those (begins H (t .0)) rs))
 
   same-takes : schemaAt a .takesArg ≡ schemaOf rs .takesArg
   unfolding schemaAt
-  same-takes = fun-ext (λ f. fun-ext (λ x. pairs-all takes-table takes-pairs (f .0) (x .0)))
+  same-takes = fun-ext (λ f. fun-ext (λ x. pairs-all takes-pairs (f .0) (x .0)))
 
   same-members : schemaAt a .hasMember ≡ schemaOf rs .hasMember
   unfolding schemaAt
-  same-members = fun-ext (λ t. fun-ext (λ o. pairs-all member-table member-pairs (t .0) (o .0)))
+  same-members = fun-ext (λ t. fun-ext (λ o. pairs-all member-pairs (t .0) (o .0)))
 
   same-some : schemaAt a .someMember ≡ schemaOf rs .someMember
   unfolding schemaAt
-  same-some = fun-ext (λ t. firsts-all member-table member-pairs (t .0))
+  same-some = fun-ext (λ t. firsts-all member-pairs (t .0))
 
   same-query : schemaAt a .queryType ≡ schemaOf rs .queryType
   unfolding schemaAt schemaHead

@@ -71,7 +71,7 @@ module _ (x : Texts) (before after : Lent) (v : Verdict) (j : Judged x before af
   mask-undeclared t o u = bit-read t o ∙ bit-undeclared (schemaIn x) sound (typeNo t) o u
 
   -- A number of 64 or more has no bit.
-  pub mask-far : (t o : ℕ) → 64 ≤ o → bitOf t o ≡ false
+  pub mask-far : (t o : ℕ) → (64 ≤ t) ⊎ (64 ≤ o) → bitOf t o ≡ false
   mask-far t o h = bit-read t o ∙ bit-far (schemaIn x) sound (typeNo t) o h
 
   pub graph-read : graphAt (after .nodes) (after .properties) (take 8200 (after .values)) ≡ graphIn x

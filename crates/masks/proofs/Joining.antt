@@ -21,8 +21,8 @@ use Rattle.bits.proofs.Laws.{bits-same, or-bit}
 use Rattle.bits.proofs.Tests.{both-ways, any-where, any-there}
 use Rattle.tables.specs.Read.{cell, narrowAt, pairAt, pairIn, schemaAt}
 use Rattle.masks.specs.Masks.{masksFrom, schemaNeeded, cellSize, masked, maskAt, memberOf, MembersSound}
-use Rattle.masks.specs.Join.{withMask, joined, letterAt, typeAt, objectAt, objectJoined, memberJoined}
-use Rattle.masks.specs.Join.{objectsJoined, membersJoined, Joinable, Maskable}
+use Rattle.masks.specs.Join.{withMask, joined, typeCount, memberCount, typeRows, memberRows, letterAt, typeAt, objectAt}
+use Rattle.masks.specs.Join.{objectJoined, memberJoined, objectsJoined, membersJoined, Joinable, Maskable}
 use Rattle.masks.proofs.Masks.{masked-length, masked-front, masked-behind, masked-low, masked-high, masked-mask, masked-is}
 use Rattle.masks.proofs.Masks.{masked-same, masked-none}
 use Rattle.masks.proofs.Membership.{rule, object-declared, members-declared, object-given}
@@ -219,13 +219,13 @@ pub still-joinable : (a b : List ℕ) (n : ℕ) → Joinable a → b ≡ members
 still-joinable a b n h e =
     let front : (i : ℕ) → i < masksFrom → cell b i ≡ cell a i = λ i l. ap (λ (x : List ℕ). cell x i) e ∙ members-front a n i l in
     let few = h .few in
-    let same = front 5 (omega arith) in
+    let same = front memberCount (omega arith) in
     record {
       long = omega (arith, ap length e, members-length a n, h .long);
       few = omega arith;
       small = λ j l.
           let small = (h .small) j (omega arith) in
-          (omega (arith, small .0, front (6920 + 3 * j + 1) (omega arith)), omega (arith, small .1, front (6920 + 3 * j + 2) (omega arith)));
+          (omega (arith, small .0, front (memberRows + 3 * j + 1) (omega arith)), omega (arith, small .1, front (memberRows + 3 * j + 2) (omega arith)));
     }
 
 -- ---- what is said in the masks
@@ -239,7 +239,7 @@ unfoldable pub ownTo : List ℕ → ℕ → ℕ → ℕ → Bool
 ownTo a n x y = any (ownAt a x y) (countUp 0 n)
 
 unfoldable pub joinsTo : List ℕ → ℕ → ℕ → ℕ → ℕ → Bool
-joinsTo a n m x y = ownTo a n x y || any (pairAt a 6920 x y) (countUp 0 m)
+joinsTo a n m x y = ownTo a n x y || any (pairAt a memberRows x y) (countUp 0 m)
 
 module _ (a : List ℕ) (room : schemaNeeded ≤ length a) where
   pub objects-masked : ((i : ℕ) → masksFrom ≤ i → i < schemaNeeded → cell a i ≡ 0) → (n : ℕ) → n ≤ 64
@@ -249,7 +249,7 @@ module _ (a : List ℕ) (room : schemaNeeded ≤ length a) where
   objects-masked blank (suc n) h =
       ap (λ (b : List ℕ). objectJoined b n) (objects-masked blank n (omega arith))
       ∙ ap (λ (k : ℕ). cond (eqb k O) (joined (masked (ownTo a n) a) n n) (masked (ownTo a n) a))
-      (masked-front (ownTo a n) a room (8 + 3 * n + 0) (omega arith))
+      (masked-front (ownTo a n) a room (typeRows + 3 * n + 0) (omega arith))
       ∙ by-test (eqb (letterAt a n) O)
       (λ g. rw g (mask-joined (ownTo a n) a room n n (omega arith) (omega arith)) ∙ masked-same _ _ a room (λ x y l k. more g x y))
       (λ g. rw g (masked-same _ _ a room (λ x y l k. less g x y)))
@@ -275,33 +275,33 @@ module _ (a : List ℕ) (room : schemaNeeded ≤ length a) where
       let o = objectAt a m in
       let both = small m (omega arith) in
       ap (λ (b : List ℕ). memberJoined b m) (members-masked n m (omega arith) (λ j l. small j (omega arith)))
-      ∙ ap₂ (joined (masked p a)) (masked-front p a room (6920 + 3 * m + 1) (omega arith)) (masked-front p a room (6920 + 3 * m + 2) (omega arith))
+      ∙ ap₂ (joined (masked p a)) (masked-front p a room (memberRows + 3 * m + 1) (omega arith)) (masked-front p a room (memberRows + 3 * m + 2) (omega arith))
       ∙ mask-joined p a room t o (both .0) (both .1)
       ∙ masked-same _ _ a room (λ x y l k.
-      or-group (ownTo a n x y) (any (pairAt a 6920 x y) (countUp 0 m)) (pairAt a 6920 x y m)
-      ∙ ap (λ (d : Bool). ownTo a n x y || d) (sym (next-any (pairAt a 6920 x y) m)))
+      or-group (ownTo a n x y) (any (pairAt a memberRows x y) (countUp 0 m)) (pairAt a memberRows x y m)
+      ∙ ap (λ (d : Bool). ownTo a n x y || d) (sym (next-any (pairAt a memberRows x y) m)))
 
 -- ---- what the tables ask for is what the rule says
 
 module _ (a : List ℕ) where
-  letter-within : (y : ℕ) → isObject (schemaAt a) (typeNo y) ≡ true → (y < cell a 0) × (eqb (letterAt a y) O ≡ true)
+  letter-within : (y : ℕ) → isObject (schemaAt a) (typeNo y) ≡ true → (y < cell a typeCount) × (eqb (letterAt a y) O ≡ true)
   unfolding schemaAt narrowAt
   letter-within y h =
-      by-test (ltb y (cell a 0))
-      (λ e. (ltb-true y (cell a 0) e, rw e at h))
+      by-test (ltb y (cell a typeCount))
+      (λ e. (ltb-true y (cell a typeCount) e, rw e at h))
       (λ e. absurd (false≢true (rw e at h)))
 
-  letter-there : (y : ℕ) → y < cell a 0 → eqb (letterAt a y) O ≡ true → isObject (schemaAt a) (typeNo y) ≡ true
+  letter-there : (y : ℕ) → y < cell a typeCount → eqb (letterAt a y) O ≡ true → isObject (schemaAt a) (typeNo y) ≡ true
   unfolding schemaAt narrowAt
-  letter-there y h e = rw (lt-ltb y (cell a 0) h) e
+  letter-there y h e = rw (lt-ltb y (cell a typeCount) h) e
 
-  own-bits : (x y : ℕ) → ownTo a (cell a 0) x y ≡ (eqb y x && isObject (schemaAt a) (typeNo y))
+  own-bits : (x y : ℕ) → ownTo a (cell a typeCount) x y ≡ (eqb y x && isObject (schemaAt a) (typeNo y))
   unfolding ownTo ownAt
   own-bits x y = both-ways _ _ there back
     where
-      there : ownTo a (cell a 0) x y ≡ true → (eqb y x && isObject (schemaAt a) (typeNo y)) ≡ true
+      there : ownTo a (cell a typeCount) x y ≡ true → (eqb y x && isObject (schemaAt a) (typeNo y)) ≡ true
       there h =
-          let found = any-where (ownAt a x y) 0 (cell a 0) h in
+          let found = any-where (ownAt a x y) 0 (cell a typeCount) h in
           let j : ℕ = found .0 in
           let letter = and-true-left (eqb (letterAt a j) O) (eqb j x && eqb j y) (found .1 .1) in
           let pair = and-true-right (eqb (letterAt a j) O) (eqb j x && eqb j y) (found .1 .1) in
@@ -310,55 +310,55 @@ module _ (a : List ℕ) where
           and-true (eq-eqb y x (sym jy ∙ jx))
           (letter-there y (omega (arith, found .1 .0, jy)) (ap (λ (k : ℕ). eqb (letterAt a k) O) (sym jy) ∙ letter))
 
-      back : (eqb y x && isObject (schemaAt a) (typeNo y)) ≡ true → ownTo a (cell a 0) x y ≡ true
+      back : (eqb y x && isObject (schemaAt a) (typeNo y)) ≡ true → ownTo a (cell a typeCount) x y ≡ true
       back h =
           let yx : y ≡ x = eqb-true y x (and-true-left (eqb y x) (isObject (schemaAt a) (typeNo y)) h) in
           let l = letter-within y (and-true-right (eqb y x) (isObject (schemaAt a) (typeNo y)) h) in
-          any-there (ownAt a x y) 0 (cell a 0) y (omega arith) (omega (arith, l .0))
+          any-there (ownAt a x y) 0 (cell a typeCount) y (omega arith) (omega (arith, l .0))
           (and-true (l .1) (and-true (eq-eqb y x yx) (eq-eqb y y refl)))
 
   module _ (sound : MembersSound (schemaAt a)) where
-    joins-member : (x y : ℕ) → joinsTo a (cell a 0) (cell a 5) x y ≡ memberOf (schemaAt a) x y
+    joins-member : (x y : ℕ) → joinsTo a (cell a typeCount) (cell a memberCount) x y ≡ memberOf (schemaAt a) x y
     unfolding joinsTo memberOf schemaAt pairIn
     joins-member x y =
-        ap (λ (b : Bool). b || any (pairAt a 6920 x y) (countUp 0 (cell a 5))) (own-bits x y)
-        ∙ rule (eqb y x) (isObject (schemaAt a) (typeNo y)) (any (pairAt a 6920 x y) (countUp 0 (cell a 5)))
+        ap (λ (b : Bool). b || any (pairAt a memberRows x y) (countUp 0 (cell a memberCount))) (own-bits x y)
+        ∙ rule (eqb y x) (isObject (schemaAt a) (typeNo y)) (any (pairAt a memberRows x y) (countUp 0 (cell a memberCount)))
         (object-given (schemaAt a) sound (typeNo x) (typeNo y))
 
     -- the numbers of an `M` record are types'
-    rows-small : (j : ℕ) → j < cell a 5 → (typeAt a j < 64) × (objectAt a j < 64)
+    rows-small : (j : ℕ) → j < cell a memberCount → (typeAt a j < 64) × (objectAt a j < 64)
     unfolding schemaAt pairIn pairAt
     rows-small j h =
         let t = typeNo (typeAt a j) in
         let o = typeNo (objectAt a j) in
-        let here : pairAt a 6920 (typeAt a j) (objectAt a j) j ≡ true = and-true (eq-eqb (typeAt a j) (typeAt a j) refl) (eq-eqb (objectAt a j) (objectAt a j) refl) in
+        let here : pairAt a memberRows (typeAt a j) (objectAt a j) j ≡ true = and-true (eq-eqb (typeAt a j) (typeAt a j) refl) (eq-eqb (objectAt a j) (objectAt a j) refl) in
         let both = (sound .given) t o
-        (any-there (pairAt a 6920 (typeAt a j) (objectAt a j)) 0 (cell a 5) j (omega arith) (omega arith) here) in
+        (any-there (pairAt a memberRows (typeAt a j) (objectAt a j)) 0 (cell a memberCount) j (omega arith) (omega arith) here) in
         ((sound .below) t (members-declared (schemaAt a) t (both .0)), (sound .below) o (object-declared (schemaAt a) o (both .1)))
 
 -- ---- the whole
 
-module _ (a : List ℕ) (h : Maskable a) (b : List ℕ) (first : b ≡ objectsJoined a (cell a 0)) where
-  objects-laid : b ≡ masked (ownTo a (cell a 0)) a
-  objects-laid = first ∙ objects-masked a (h .long) (h .blank) (cell a 0) (h .types)
+module _ (a : List ℕ) (h : Maskable a) (b : List ℕ) (first : b ≡ objectsJoined a (cell a typeCount)) where
+  objects-laid : b ≡ masked (ownTo a (cell a typeCount)) a
+  objects-laid = first ∙ objects-masked a (h .long) (h .blank) (cell a typeCount) (h .types)
 
   front : (i : ℕ) → i < masksFrom → cell b i ≡ cell a i
-  front i l = ap (λ (x : List ℕ). cell x i) objects-laid ∙ masked-front (ownTo a (cell a 0)) a (h .long) i l
+  front i l = ap (λ (x : List ℕ). cell x i) objects-laid ∙ masked-front (ownTo a (cell a typeCount)) a (h .long) i l
 
   pub members-joinable : Joinable b
   members-joinable =
-      let same = front 5 (omega arith) in
+      let same = front memberCount (omega arith) in
       record {
-        long = omega (arith, ap length first, objects-length a (cell a 0), h .long);
+        long = omega (arith, ap length first, objects-length a (cell a typeCount), h .long);
         few = omega (arith, h .members);
         small = λ j l.
             let few = h .members in
             let small = rows-small a (h .sound) j (omega arith) in
-            (omega (arith, small .0, front (6920 + 3 * j + 1) (omega arith)), omega (arith, small .1, front (6920 + 3 * j + 2) (omega arith)));
+            (omega (arith, small .0, front (memberRows + 3 * j + 1) (omega arith)), omega (arith, small .1, front (memberRows + 3 * j + 2) (omega arith)));
       }
 
-  pub all-joined : (c : List ℕ) → c ≡ membersJoined b (cell b 5) → c ≡ masked (memberOf (schemaAt a)) a
+  pub all-joined : (c : List ℕ) → c ≡ membersJoined b (cell b memberCount) → c ≡ masked (memberOf (schemaAt a)) a
   all-joined c e =
-      e ∙ ap₂ membersJoined objects-laid (front 5 (omega arith))
-      ∙ members-masked a (h .long) (cell a 0) (cell a 5) (h .members) (rows-small a (h .sound))
+      e ∙ ap₂ membersJoined objects-laid (front memberCount (omega arith))
+      ∙ members-masked a (h .long) (cell a typeCount) (cell a memberCount) (h .members) (rows-small a (h .sound))
       ∙ masked-same _ _ a (h .long) (λ x y l k. joins-member a (h .sound) x y)

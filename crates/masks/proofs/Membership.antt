@@ -90,12 +90,7 @@ module _ (s : Schema) (sound : MembersSound s) where
       ]))
       (λ e. e)
 
-  -- A number of 64 or more has no bit.
-  pub bit-far : (t : TypeNo) (o : ℕ) → 64 ≤ o → bit (membersOf s t) o ≡ false
-  unfolding membersOf
-  bit-far t o h = bit-above (membersOf s t) 64 o (bits-small (memberOf s (t .0)) 64) h
-
-  -- and no members
+  -- A number of 64 or more has no members,
   pub none-far : (t : TypeNo) → 64 ≤ t .0 → membersOf s t ≡ 0
   unfolding membersOf
   none-far t h =
@@ -106,6 +101,12 @@ module _ (s : Schema) (sound : MembersSound s) where
           by-test (memberOf s (t .0) o)
           (λ e. let l = (sound .below) t (member-type (t .0) o e) in absurd (omega arith))
           (λ e. e)
+
+  -- and no bit.
+  pub bit-far : (t : TypeNo) (o : ℕ) → (64 ≤ t .0) ⊎ (64 ≤ o) → bit (membersOf s t) o ≡ false
+  unfolding membersOf
+  bit-far t o (inl h) = ap (λ (m : ℕ). bit m o) (none-far t h) ∙ bit-zero o
+  bit-far t o (inr h) = bit-above (membersOf s t) 64 o (bits-small (memberOf s (t .0)) 64) h
 
   -- The bits of a type but its own are its members by `M`.
   pub bit-other : (t o : TypeNo) → (o .0 ≡ t .0 → ⊥) → bit (membersOf s t) (o .0) ≡ (s .hasMember) t o

@@ -18,16 +18,30 @@ withMask a t m = set (set a (masksFrom + 2 * t) (m % cellSize)) (masksFrom + 2 *
 unfoldable pub joined : List ℕ → ℕ → ℕ → List ℕ
 joined a t o = withMask a t (bitOr (maskAt a t) (2 ^ o))
 
--- ---- what the tables ask for: the letter of type t, and the two numbers of `M` record j
+-- ---- what the tables ask for
 
+-- where the count of the types and that of the `M` records stand in the area, and where their rows begin
+abbrev pub typeCount : ℕ
+typeCount = 0
+
+abbrev pub memberCount : ℕ
+memberCount = 5
+
+abbrev pub typeRows : ℕ
+typeRows = 8
+
+abbrev pub memberRows : ℕ
+memberRows = 6920
+
+-- the letter of type t, and the two numbers of `M` record j
 abbrev pub letterAt : List ℕ → ℕ → ℕ
-letterAt a t = cell a (8 + 3 * t + 0)
+letterAt a t = cell a (typeRows + 3 * t + 0)
 
 abbrev pub typeAt : List ℕ → ℕ → ℕ
-typeAt a j = cell a (6920 + 3 * j + 1)
+typeAt a j = cell a (memberRows + 3 * j + 1)
 
 abbrev pub objectAt : List ℕ → ℕ → ℕ
-objectAt a j = cell a (6920 + 3 * j + 2)
+objectAt a j = cell a (memberRows + 3 * j + 2)
 
 -- an object type joins itself; any other does not
 unfoldable pub objectJoined : List ℕ → ℕ → List ℕ
@@ -51,13 +65,13 @@ membersJoined a (suc n) = memberJoined (membersJoined a n) n
 -- the numbers of each `M` record can be types'
 pub record Joinable (a : List ℕ) : Type 0 where
   pub long : schemaNeeded ≤ length a
-  pub few : cell a 5 ≤ 1024
-  pub small : (j : ℕ) → j < cell a 5 → (typeAt a j < 64) × (objectAt a j < 64)
+  pub few : cell a memberCount ≤ 1024
+  pub small : (j : ℕ) → j < cell a memberCount → (typeAt a j < 64) × (objectAt a j < 64)
 
 -- A schema that passed 12 stands in the area, and zeros where the masks will.
 pub record Maskable (a : List ℕ) : Type 0 where
   pub long : schemaNeeded ≤ length a
-  pub types : cell a 0 ≤ 64
-  pub members : cell a 5 ≤ 1024
+  pub types : cell a typeCount ≤ 64
+  pub members : cell a memberCount ≤ 1024
   pub sound : MembersSound (schemaAt a)
   pub blank : (i : ℕ) → masksFrom ≤ i → i < schemaNeeded → cell a i ≡ 0

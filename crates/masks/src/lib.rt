@@ -5,13 +5,22 @@ ghost use Prim.Native.Nat.{_≤_, _<_};
 ghost use lib.ListN.{length};
 ghost use Rattle.tables.specs.Read.{cell, schemaAt};
 ghost use Rattle.masks.specs.Masks.{memberOf, membersOf, schemaNeeded, cellSize, masked, maskAt, Masked};
-ghost use Rattle.masks.specs.Join.{joined, objectJoined, memberJoined, objectsJoined, membersJoined, Joinable, Maskable};
+ghost use Rattle.masks.specs.Join.{typeCount, memberCount, joined, objectJoined, memberJoined, objectsJoined, membersJoined, Joinable, Maskable};
 use rules::TypeNo;
 
 // Where the masks stand in the schema's area, and where they end: its needed length.
 pub const MASKS: usize = 14600;
 
 pub const SCHEMA_NEEDED: usize = 14728;
+
+// Where the count of the types and that of the `M` records stand in it, and where their rows begin.
+const TYPE_COUNT: usize = 0;
+
+const MEMBER_COUNT: usize = 5;
+
+const TYPE_ROWS: usize = 8;
+
+const MEMBER_ROWS: usize = 6920;
 
 // How many numbers a cell can hold: half of a mask.
 const CELL_SIZE: u64 = 4294967296;
@@ -68,7 +77,7 @@ fn join_object(a: &mut [u32], t: u32)
     requires { ⌜ t < 64 ⌝ }
     ensures { λ _. ⌜ now (a .exit) ≡ objectJoined (now (a .entry)) t ⌝ }
 {
-    if tables::row_cell(a, 8, 3, t as usize, 0) != 79 {
+    if tables::row_cell(a, TYPE_ROWS, 3, t as usize, 0) != 79 {
         return;
     }
     join(a, t, t);
@@ -77,10 +86,10 @@ fn join_object(a: &mut [u32], t: u32)
 // Joins each object type to itself.
 fn join_objects(a: &mut [u32])
     requires { ⌜ schemaNeeded ≤ length (now a) ⌝ }
-    requires { ⌜ cell (now a) 0 ≤ 64 ⌝ }
-    ensures { λ _. ⌜ now (a .exit) ≡ objectsJoined (now (a .entry)) (cell (now (a .entry)) 0) ⌝ }
+    requires { ⌜ cell (now a) typeCount ≤ 64 ⌝ }
+    ensures { λ _. ⌜ now (a .exit) ≡ objectsJoined (now (a .entry)) (cell (now (a .entry)) typeCount) ⌝ }
 {
-    let types = a[0];
+    let types = a[TYPE_COUNT];
     let mut t: u32 = 0;
     while t < types {
         join_object(a, t);
@@ -91,20 +100,20 @@ fn join_objects(a: &mut [u32])
 // Joins the object of `M` record j to its type.
 fn join_member(a: &mut [u32], j: usize)
     requires { ⌜ Joinable (now a) ⌝ }
-    requires { ⌜ j < cell (now a) 5 ⌝ }
+    requires { ⌜ j < cell (now a) memberCount ⌝ }
     ensures { λ _. ⌜ now (a .exit) ≡ memberJoined (now (a .entry)) j ⌝ }
 {
-    let t = tables::row_cell(a, 6920, 3, j, 1);
-    let o = tables::row_cell(a, 6920, 3, j, 2);
+    let t = tables::row_cell(a, MEMBER_ROWS, 3, j, 1);
+    let o = tables::row_cell(a, MEMBER_ROWS, 3, j, 2);
     join(a, t, o);
 }
 
 // Joins the object of each `M` record to its type.
 fn join_members(a: &mut [u32])
     requires { ⌜ Joinable (now a) ⌝ }
-    ensures { λ _. ⌜ now (a .exit) ≡ membersJoined (now (a .entry)) (cell (now (a .entry)) 5) ⌝ }
+    ensures { λ _. ⌜ now (a .exit) ≡ membersJoined (now (a .entry)) (cell (now (a .entry)) memberCount) ⌝ }
 {
-    let members = a[5] as usize;
+    let members = a[MEMBER_COUNT] as usize;
     let mut j: usize = 0;
     while j < members {
         join_member(a, j);

@@ -61,10 +61,10 @@ module _ (a : List ℕ) (ps rs : List Row) (stands : SchemaStands a (ps ++ rs)) 
       (among l (H ∷ G ∷ M ∷ []) && any (states l u v) (reverse ps))
       ≡ any (pairAt a (pairBase l) u v) (countUp 0 (pairCount (countsOf ps) l))
 
-  paired : {k base letter : ℕ} → PairTable k base letter
+  paired : {k head base letter : ℕ} → PairTable k head base letter
       → any (states letter u v) (reverse ps) ≡ any (pairAt a base u v) (countUp 0 (counted k ps))
   unfolding pairIn
-  paired {k} {base} {letter} t = any-reverse (states letter u v) ps ∙ sym (pairs-before a ps rs stands fits t u v)
+  paired {letter = letter} t = any-reverse (states letter u v) ps ∙ sym (pairs-before a ps rs stands fits t u v)
 
   has-paired : Paired H
   unfolding pairBase pairCount countsOf

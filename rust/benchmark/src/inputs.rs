@@ -24,6 +24,7 @@ pub fn all() -> Vec<Input> {
         widest_answer(),
         maxima(),
         worst_sizing("worst sizing", 17, 512, 1_024),
+        conditions(),
         refused_graph(),
         refused_query(),
     ]
@@ -172,6 +173,24 @@ pub fn worst_sizing(name: &str, chains: usize, nodes: usize, edges: usize) -> In
         line(&mut query, &[15, 2, 2, 0], 'F');
     }
     Input::new(name, shown("S 0 9/O/O/F 2 1/F 0 0/F 0 0/H 1 0/H 2 0/H 2 1/H 2 2/Q 1"), graph, query)
+}
+
+/// Type conditions at 511 nodes of 31 object types: a list to all of them and under it 85 times a union of all object types, in it one
+/// object type, in that a scalar.
+fn conditions() -> Input {
+    let mut graph = shown("N 1");
+    let mut query = shown("F 0 0 2 0");
+    for node in 1..512 {
+        line(&mut graph, &[2 + node % 31], 'N');
+        line(&mut graph, &[0, 2, node, 0], 'E');
+        line(&mut graph, &[node, 0, 0, 0, node % 10], 'P');
+    }
+    for condition in 0..85 {
+        line(&mut query, &[1, 37 + condition % 27], 'T');
+        line(&mut query, &[2, 2 + condition % 31], 'T');
+        line(&mut query, &[3, condition, 0, 0], 'F');
+    }
+    Input::new("type conditions", maxima_schema(), graph, query)
 }
 
 /// The maxima, with a property for the second time in the graph's last line: 26.

@@ -7,7 +7,7 @@ use mathlib.Core.List.{List}
 use lib.ListN.{length}
 use borrow.Author.Needs.{needs}
 use Rattle.tables.specs.Read.{cell}
-use Rattle.masks.specs.Join.{membersJoined}
+use Rattle.masks.specs.Join.{memberCount, membersJoined}
 use Rattle.masks.proofs.Joining.{member-turn, members-length, members-front, still-joinable}
 use Rattle.masks.proofs.join_members.Statement.{statement}
 use Rattle.masks.proofs.join_members.Tie as tie
@@ -29,9 +29,9 @@ same : (c : Turning) → length (c .loop .a) ≡ length (start c .args .a .now)
 same c = ap length (c .loop .inv .0) ∙ members-length (start c .args .a .now) (c .loop .j)
 
 -- the count stands as it stood
-same-count : (c : Turning) → cell (c .loop .a) 5 ≡ cell (start c .args .a .now) 5
+same-count : (c : Turning) → cell (c .loop .a) memberCount ≡ cell (start c .args .a .now) memberCount
 same-count c =
-    ap (λ (a : List ℕ). cell a 5) (c .loop .inv .0) ∙ members-front (start c .args .a .now) (c .loop .j) 5 (omega arith)
+    ap (λ (a : List ℕ). cell a memberCount) (c .loop .inv .0) ∙ members-front (start c .args .a .now) (c .loop .j) memberCount (omega arith)
 
 abbrev turn : tie.After-slice-known3 Inv-loop μ-loop → Turning
 turn c = let test = c .before .before .before .before in test .before
@@ -51,9 +51,10 @@ asks-member : tie.Need-join-member-requires Inv-loop μ-loop
 unfolding cell
 asks-member c κs =
     let here = c .before .before in
-    let count = same-count here in
-    (still-joinable (start here .args .a .now) (here .loop .a) (here .loop .j) (start here .pre) (here .loop .inv .0),
-    omega (arith, c .before .loop-test .taken))
+    let count = same-count here in (
+      still-joinable (start here .args .a .now) (here .loop .a) (here .loop .j) (start here .pre) (here .loop .inv .0),
+      omega (arith, c .before .loop-test .taken),
+    )
 
 counts : tie.Need-add-j Inv-loop μ-loop
 unfolding cell

@@ -45,7 +45,9 @@ fn mask_of(a: &[u32], t: u32) -> u64
         return 0;
     }
     let at = MASKS + 2 * (t as usize);
-    half_at(a, at) + CELL_SIZE * half_at(a, at + 1)
+    let low = half_at(a, at);
+    let high = half_at(a, at + 1);
+    low + CELL_SIZE * high
 }
 
 // The object types that are compatible with t, as the bits of one number.

@@ -22,7 +22,7 @@ use Rattle.bits.proofs.Tests.{both-ways, any-where, any-there}
 use Rattle.tables.specs.Read.{cell, narrowAt, pairAt, pairIn, schemaAt}
 use Rattle.masks.specs.Masks.{masksFrom, schemaNeeded, cellSize, masked, maskAt, memberOf, MembersSound}
 use Rattle.masks.specs.Join.{withMask, joined, typeCount, memberCount, typeRows, memberRows, letterAt, typeAt, objectAt}
-use Rattle.masks.specs.Join.{objectJoined, memberJoined, objectsJoined, membersJoined, Joinable, Maskable}
+use Rattle.masks.specs.Join.{objectJoined, memberJoined, joinedBy, objectsJoined, membersJoined, Joinable, Maskable}
 use Rattle.masks.proofs.Masks.{masked-length, masked-front, masked-behind, masked-low, masked-high, masked-mask, masked-is}
 use Rattle.masks.proofs.Masks.{masked-same, masked-none}
 use Rattle.masks.proofs.Membership.{rule, object-declared, members-declared, object-given}
@@ -183,36 +183,34 @@ module _ (a : List ℕ) (t v : ℕ) (e : v ≡ letterAt a t) where
   unfolding objectJoined
   object-joined b h f = rw (eq-eqb (letterAt a t) O (sym e ∙ h)) f
 
--- ---- the turns of both loops
+-- ---- one after another
 
-pub object-turn : (a b c : List ℕ) (n : ℕ) → b ≡ objectsJoined a n → c ≡ objectJoined b n → c ≡ objectsJoined a (n + 1)
-unfolding objectsJoined
-object-turn a b c n e f = rw (add-one n) (f ∙ ap (λ (x : List ℕ). objectJoined x n) e)
+-- a turn of a loop that joins
+pub join-turn : (step : List ℕ → ℕ → List ℕ) (a b c : List ℕ) (n : ℕ) → b ≡ joinedBy step a n → c ≡ step b n → c ≡ joinedBy step a (n + 1)
+unfolding joinedBy
+join-turn step a b c n e f = rw (add-one n) (f ∙ ap (λ (x : List ℕ). step x n) e)
 
-pub member-turn : (a b c : List ℕ) (n : ℕ) → b ≡ membersJoined a n → c ≡ memberJoined b n → c ≡ membersJoined a (n + 1)
-unfolding membersJoined
-member-turn a b c n e f = rw (add-one n) (f ∙ ap (λ (x : List ℕ). memberJoined x n) e)
+-- what each step leaves is left
+pub join-kept : {B : Type 0} (step : List ℕ → ℕ → List ℕ) (ask : List ℕ → B) → ((a : List ℕ) (n : ℕ) → ask (step a n) ≡ ask a)
+    → (a : List ℕ) (n : ℕ) → ask (joinedBy step a n) ≡ ask a
+unfolding joinedBy
+join-kept step ask kept a zero = refl
+join-kept step ask kept a (suc n) = kept (joinedBy step a n) n ∙ join-kept step ask kept a n
 
 pub objects-length : (a : List ℕ) (n : ℕ) → length (objectsJoined a n) ≡ length a
-unfolding objectsJoined objectJoined
-objects-length a zero = refl
-objects-length a (suc n) =
-    let b = objectsJoined a n in
-    by-test (eqb (letterAt b n) O)
-    (λ e. rw e (length-joined b n n ∙ objects-length a n))
-    (λ e. rw e (objects-length a n))
+unfolding objectJoined
+objects-length =
+    join-kept objectJoined length
+    (λ a n. by-test (eqb (letterAt a n) O) (λ e. rw e (length-joined a n n)) (λ e. rw e refl))
 
 pub members-length : (a : List ℕ) (n : ℕ) → length (membersJoined a n) ≡ length a
-unfolding membersJoined memberJoined
-members-length a zero = refl
-members-length a (suc n) = let b = membersJoined a n in length-joined b (typeAt b n) (objectAt b n) ∙ members-length a n
+unfolding memberJoined
+members-length = join-kept memberJoined length (λ a n. length-joined a (typeAt a n) (objectAt a n))
 
 pub members-front : (a : List ℕ) (n i : ℕ) → i < masksFrom → cell (membersJoined a n) i ≡ cell a i
-unfolding membersJoined memberJoined
-members-front a zero i h = refl
-members-front a (suc n) i h =
-    let b = membersJoined a n in
-    front-joined b (typeAt b n) (objectAt b n) i h ∙ members-front a n i h
+unfolding memberJoined
+members-front a n i h =
+    join-kept memberJoined (λ (b : List ℕ). cell b i) (λ b j. front-joined b (typeAt b j) (objectAt b j) i h) a n
 
 -- so that each of them can join
 pub still-joinable : (a b : List ℕ) (n : ℕ) → Joinable a → b ≡ membersJoined a n → Joinable b
@@ -244,7 +242,7 @@ joinsTo a n m x y = ownTo a n x y || any (pairAt a memberRows x y) (countUp 0 m)
 module _ (a : List ℕ) (room : schemaNeeded ≤ length a) where
   pub objects-masked : ((i : ℕ) → masksFrom ≤ i → i < schemaNeeded → cell a i ≡ 0) → (n : ℕ) → n ≤ 64
       → objectsJoined a n ≡ masked (ownTo a n) a
-  unfolding objectsJoined objectJoined ownTo ownAt
+  unfolding joinedBy objectJoined ownTo ownAt
   objects-masked blank zero h = sym (masked-none a room blank)
   objects-masked blank (suc n) h =
       ap (λ (b : List ℕ). objectJoined b n) (objects-masked blank n (omega arith))
@@ -267,7 +265,7 @@ module _ (a : List ℕ) (room : schemaNeeded ≤ length a) where
 
   pub members-masked : (n m : ℕ) → m ≤ 1024 → ((j : ℕ) → j < m → (typeAt a j < 64) × (objectAt a j < 64))
       → membersJoined (masked (ownTo a n) a) m ≡ masked (joinsTo a n m) a
-  unfolding membersJoined memberJoined joinsTo pairAt
+  unfolding joinedBy memberJoined joinsTo pairAt
   members-masked n zero h small = masked-same _ _ a room (λ x y l k. sym (or-none (ownTo a n x y)))
   members-masked n (suc m) h small =
       let p = joinsTo a n m in

@@ -51,14 +51,17 @@ objectJoined a t = cond (eqb (letterAt a t) O) (joined a t t) a
 unfoldable pub memberJoined : List ℕ → ℕ → List ℕ
 memberJoined a j = joined a (typeAt a j) (objectAt a j)
 
--- the first n types, the first n `M` records
-unfoldable pub objectsJoined : List ℕ → ℕ → List ℕ
-objectsJoined a zero = a
-objectsJoined a (suc n) = objectJoined (objectsJoined a n) n
+-- one after another, the first n
+unfoldable pub joinedBy : (List ℕ → ℕ → List ℕ) → List ℕ → ℕ → List ℕ
+joinedBy step a zero = a
+joinedBy step a (suc n) = step (joinedBy step a n) n
 
-unfoldable pub membersJoined : List ℕ → ℕ → List ℕ
-membersJoined a zero = a
-membersJoined a (suc n) = memberJoined (membersJoined a n) n
+-- of the types, and of the `M` records
+abbrev pub objectsJoined : List ℕ → ℕ → List ℕ
+objectsJoined a n = joinedBy objectJoined a n
+
+abbrev pub membersJoined : List ℕ → ℕ → List ℕ
+membersJoined a n = joinedBy memberJoined a n
 
 -- ---- areas that they can be laid in
 

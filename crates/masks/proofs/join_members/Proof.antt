@@ -7,8 +7,8 @@ use mathlib.Core.List.{List}
 use lib.ListN.{length}
 use borrow.Author.Needs.{needs}
 use Rattle.tables.specs.Read.{cell}
-use Rattle.masks.specs.Join.{memberCount, membersJoined}
-use Rattle.masks.proofs.Joining.{member-turn, members-length, members-front, still-joinable}
+use Rattle.masks.specs.Join.{memberCount, memberJoined, joinedBy, membersJoined}
+use Rattle.masks.proofs.Joining.{join-turn, members-length, members-front, still-joinable}
 use Rattle.masks.proofs.join_members.Statement.{statement}
 use Rattle.masks.proofs.join_members.Tie as tie
 
@@ -44,7 +44,7 @@ unfolding cell
 counted c = omega (arith, c .before .before .pre .few)
 
 starts : tie.Need-loop-holds Inv-loop μ-loop
-unfolding membersJoined
+unfolding joinedBy
 starts c = (refl, omega arith)
 
 asks-member : tie.Need-join-member-requires Inv-loop μ-loop
@@ -63,7 +63,7 @@ counts c = let few = start (turn c) .pre .few in omega (arith, c .before .before
 again : tie.Need-loop-again Inv-loop μ-loop
 again c =
     let here = turn c in (
-      member-turn (start here .args .a .now) (here .loop .a) _ (here .loop .j) (here .loop .inv .0) (c .before .before .join-member .ensures),
+      join-turn memberJoined (start here .args .a .now) (here .loop .a) _ (here .loop .j) (here .loop .inv .0) (c .before .before .join-member .ensures),
       omega (arith, c .before .before .before .before .loop-test .taken),
     )
 

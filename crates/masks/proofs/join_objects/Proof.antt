@@ -7,8 +7,8 @@ use mathlib.Core.List.{List}
 use lib.ListN.{length}
 use borrow.Author.Needs.{needs}
 use Rattle.tables.specs.Read.{cell}
-use Rattle.masks.specs.Join.{objectsJoined}
-use Rattle.masks.proofs.Joining.{object-turn, objects-length}
+use Rattle.masks.specs.Join.{objectJoined, joinedBy, objectsJoined}
+use Rattle.masks.proofs.Joining.{join-turn, objects-length}
 use Rattle.masks.proofs.join_objects.Statement.{statement}
 use Rattle.masks.proofs.join_objects.Tie as tie
 
@@ -32,7 +32,7 @@ abbrev turn : tie.After-slice-known3 Inv-loop μ-loop → Turning
 turn c = let test = c .before .before .before .before in test .before
 
 starts : tie.Need-loop-holds Inv-loop μ-loop
-unfolding objectsJoined
+unfolding joinedBy
 starts c = (refl, omega arith)
 
 asks-object : tie.Need-join-object-requires Inv-loop μ-loop
@@ -48,7 +48,7 @@ counts c = let few = start (turn c) .pre .1 in omega (arith, c .before .before .
 again : tie.Need-loop-again Inv-loop μ-loop
 again c =
     let here = turn c in (
-      object-turn (start here .args .a .now) (here .loop .a) _ (here .loop .t) (here .loop .inv .0) (c .before .before .join-object .ensures),
+      join-turn objectJoined (start here .args .a .now) (here .loop .a) _ (here .loop .t) (here .loop .inv .0) (c .before .before .join-object .ensures),
       omega (arith, c .before .before .before .before .loop-test .taken),
     )
 

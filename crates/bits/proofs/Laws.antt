@@ -90,10 +90,6 @@ bits-back m (suc n) h =
     (bits-same (bit m) (bit (m % 2 ^ n)) n (λ o l. bit-low m n o l) ∙ bits-back (m % 2 ^ n) n (mod-lt m (pow-pos n)))
     ∙ div-add-mod' m (2 ^ n)
 
--- so numbers with the same bits are equal
-pub same-bits : (m k n : ℕ) → m < 2 ^ n → k < 2 ^ n → ((o : ℕ) → o < n → bit m o ≡ bit k o) → m ≡ k
-same-bits m k n h l e = sym (bits-back m n h) ∙ bits-same (bit m) (bit k) n e ∙ bits-back k n l
-
 -- ---- the bits of two numbers
 
 or-digits : (x y : ℕ) → x < 2 → y < 2 → eqb (bitOr x y) 1 ≡ (eqb x 1 || eqb y 1)
@@ -201,9 +197,3 @@ any-bit m n h =
 
 pub halves : (m : ℕ) → m % 4294967296 + 4294967296 * (m / 4294967296) ≡ m
 halves m = omega arith
-
-pub low-half : (l h : ℕ) → l < 4294967296 → (l + 4294967296 * h) % 4294967296 ≡ l
-low-half l h s = omega arith
-
-pub high-half : (l h : ℕ) → l < 4294967296 → (l + 4294967296 * h) / 4294967296 ≡ h
-high-half l h s = omega arith

@@ -6,27 +6,25 @@ use mathlib.Core.Path.{_≡_, refl, sym, ap, ap₂, _∙_}
 use mathlib.Core.Bool.{Bool, true, false, cond}
 use mathlib.Core.List.{List}
 use lib.Dec.{ltb, eqb}
-use lib.ListN.{length, getD, length-map}
+use lib.ListN.{length, getD}
 use lib.Seq.{ext-getD}
-use borrow.Author.Tests.{lt-ltb, le-ltb}
-use Rattle.rules.specs.Lists.{countUp}
-use Rattle.rules.proofs.Size.{length-countUp}
-use Rattle.rules.proofs.Visited.{getD-up}
+use borrow.Author.Tests.{lt-ltb}
 use Rattle.bits.specs.Bits.{bit, bitsOf}
-use Rattle.bits.proofs.Laws.{bit-in, bit-above, bit-zero, bits-small, bits-same, bits-back, halves}
+use Rattle.bits.proofs.Laws.{bit-zero, bits-same, bits-back, halves}
+use Rattle.index.proofs.Links.{tabled-length, tabled-at}
 use Rattle.masks.specs.Masks.{masksFrom, schemaNeeded, cellSize, filled, halfOf, maskCells, masked, maskAt}
 use Rattle.tables.specs.Read.{cell}
 use Rattle.tables.proofs.Laid.{laid-length, laid-in, laid-before, laid-behind}
 
 -- ---- numbers by their places
 
-pub filled-length : (n : ℕ) (f : ℕ → ℕ) → length (filled n f) ≡ n
+filled-length : (n : ℕ) (f : ℕ → ℕ) → length (filled n f) ≡ n
 unfolding filled
-filled-length n f = length-map (countUp 0 n) _ ∙ length-countUp 0 n
+filled-length n f = tabled-length f n 0
 
-pub filled-at : (n : ℕ) (f : ℕ → ℕ) (i : ℕ) → i < n → getD (filled n f) i 0 ≡ f i
+filled-at : (n : ℕ) (f : ℕ → ℕ) (i : ℕ) → i < n → getD (filled n f) i 0 ≡ f i
 unfolding filled
-filled-at n f i h = getD-up f 0 n i h ∙ ap f (omega arith)
+filled-at n f i h = tabled-at f 0 n i h
 
 module _ (p : ℕ → ℕ → Bool) where
   cells-length : length (maskCells p) ≡ 128
@@ -75,21 +73,6 @@ module _ (p : ℕ → ℕ → Bool) (a : List ℕ) (room : schemaNeeded ≤ leng
     masked-mask =
         rw (lt-ltb t 64 h)
         (ap₂ (λ (x y : ℕ). x + cellSize * y) masked-low masked-high ∙ halves (bitsOf (p t) 64))
-
-  -- bit by bit
-  pub masked-bit : (t o : ℕ) → t < 64 → o < 64 → bit (maskAt (masked p a) t) o ≡ p t o
-  masked-bit t o h k = ap (λ (m : ℕ). bit m o) (masked-mask t h) ∙ bit-in (p t) 64 o k
-
-  pub masked-far : (t o : ℕ) → (t < 64 → o < 64 → ⊥) → bit (maskAt (masked p a) t) o ≡ false
-  unfolding maskAt
-  masked-far t o far = go (decLt t 64) (decLt o 64)
-    where
-      go : Dec (t < 64) → Dec (o < 64) → bit (maskAt (masked p a) t) o ≡ false
-      go (yes h) (yes k) = absurd (far h k)
-      go (yes h) (no k) =
-          ap (λ (m : ℕ). bit m o) (masked-mask t h)
-          ∙ bit-above (bitsOf (p t) 64) 64 o (bits-small (p t) 64) (omega arith)
-      go (no h) d = rw (le-ltb t 64 (omega arith)) (bit-zero o)
 
   -- ---- whatever has the front of a, these masks and nothing else besides
 

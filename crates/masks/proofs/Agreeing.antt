@@ -1,19 +1,18 @@
 -- The area of an accepted schema: its tables and links stand in it, and its masks are the members of its types. Assumes nothing.
-use Prim.Native.Nat.{ℕ, _+_, _*_, _≤_, _<_}
+use Prim.Native.Nat.{ℕ, _≤_, _<_}
 use native.Mathlib.Omega.{arith}
 use native.Mathlib.Decide.{decLt}
-use mathlib.Core.Path.{_≡_, refl, sym, ap, _∙_, subst}
+use mathlib.Core.Path.{_≡_, sym, ap, _∙_, subst}
 use mathlib.Core.Bool.{Bool}
 use mathlib.Core.List.{List}
 use lib.ListN.{length}
 use Rattle.rules.specs.Text.{Row}
 use Rattle.rules.specs.Schema.{Schema, schemaOf}
 use Rattle.rules.specs.declared.TypeNo.{TypeNo}
-use Rattle.bits.specs.Bits.{bitsOf}
 use Rattle.tables.specs.Fill.{SchemaFits}
 use Rattle.tables.specs.Read.{cell, schemaAt}
 use Rattle.tables.proofs.Schemas.{type-table, member-table}
-use Rattle.index.specs.Buckets.{linksEnd, schemaLinked, SchemaStands}
+use Rattle.index.specs.Buckets.{schemaLinked, SchemaStands}
 use Rattle.index.proofs.Buckets.{schema-tabled, linked-stands}
 use Rattle.index.proofs.Views.{schema-count, schema-view}
 use Rattle.masks.specs.Masks.{memberOf, membersOf, MembersSound, schemaNeeded, masked, schemaArea, maskAt, Masked}

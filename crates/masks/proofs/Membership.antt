@@ -4,7 +4,7 @@ use native.Mathlib.Omega.{arith}
 use native.Mathlib.Decide.{decLt}
 use mathlib.Core.Path.{_≡_, refl, sym, ap, _∙_}
 use mathlib.Core.Bool.{Bool, true, false, _&&_, _||_, false≢true}
-use mathlib.Core.List.{List, [], _∷_}
+use mathlib.Core.List.{[], _∷_}
 use mathlib.Core.Logic.{_⊎_, inl, inr}
 use lib.Dec.{eqb}
 use borrow.Author.Tests.{eqb-true, ne-eqb}
@@ -13,8 +13,8 @@ use Rattle.rules.specs.Text.{typeNo, I, O, U}
 use Rattle.rules.specs.Schema.{Schema, kind, isObject, hasMembers, compatible}
 use Rattle.rules.specs.declared.TypeNo.{TypeNo}
 use Rattle.rules.proofs.Bools.{and-true-left, and-true-right, clash}
-use Rattle.text.proofs.Tools.{by-test, and-false}
-use Rattle.bits.specs.Bits.{bit, bitsOf}
+use Rattle.text.proofs.Tools.{by-test}
+use Rattle.bits.specs.Bits.{bit}
 use Rattle.bits.proofs.Laws.{bit-zero, bit-in, bit-above, bits-small, bits-same, bits-back}
 use Rattle.masks.specs.Masks.{memberOf, membersOf, MembersSound}
 

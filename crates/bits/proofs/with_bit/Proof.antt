@@ -1,5 +1,5 @@
 -- `bits::with_bit` meets its contract: a single bit shifted up below 64 loses nothing. Assumes nothing.
-use Prim.Native.Nat.{ℕ, _*_, _^_}
+use Prim.Native.Nat.{_^_}
 use mathlib.Core.Path.{ap, _∙_}
 use native.Mathlib.Nat.{one-mul}
 use native.Mathlib.Omega.{arith}

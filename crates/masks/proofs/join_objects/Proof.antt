@@ -1,9 +1,8 @@
 -- `masks::join_objects` meets its contract. The loop's invariant: the types before its place have joined. The measure is those left. Assumes
 -- nothing.
-use Prim.Native.Nat.{ℕ, _-_, _≤_}
+use Prim.Native.Nat.{_-_, _≤_}
 use native.Mathlib.Omega.{arith}
 use mathlib.Core.Path.{_≡_, refl, ap, _∙_}
-use mathlib.Core.List.{List}
 use lib.ListN.{length}
 use borrow.Author.Needs.{needs}
 use Rattle.tables.specs.Read.{cell}

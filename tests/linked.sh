@@ -20,25 +20,69 @@ quiet() {
     }
 }
 
-# Ends the run where the archive cannot be linked, and fails where a tool is missing.
+# Fails where the archive cannot be linked, or a tool is missing.
 wants() {
     local tool
-    if [ "$(uname -s) $(uname -m)" != 'Linux x86_64' ]; then
-        say 'skipped: the archive links only into programs for x86-64 Linux'
-        exit 0
-    fi
-    for tool in "$@"; do
+    for tool in "$@" readelf; do
         command -v "$tool" >"$work/said" || fail "there is no $tool on the path"
+    done
+    case "$(uname -s) $(uname -m)" in
+        'Linux x86_64') machine=X86-64 ;;
+        'Linux aarch64') machine=AArch64 && arm_kit ;;
+        *) fail "the archive links only into programs for Linux on x86-64 or Arm, and this is $(uname -s) on $(uname -m)" ;;
+    esac
+}
+
+# Links all of a folder but one name into another folder.
+link_but() {
+    local part
+    for part in "$1"/*; do
+        [ "${part##*/}" = "$3" ] || ln -s "$part" "$2"
     done
 }
 
-# Proves and builds the archive where it is missing or older than a source.
+# `rt` compiles for x86-64 alone. On Arm the tests link what the same clang makes, for this machine, of the same module: a kit that
+# is the installed one but for its clang, which is asked for another target.
+arm_kit() {
+    local home own tools kit=$work/kit
+    home=$(dirname "$(dirname "$(rt doc)")")
+    own=on/aarch64
+    tools=$own/toolchain
+    mkdir -p "$kit/$tools/bin"
+    link_but "$home" "$kit" on
+    link_but "$home/$own" "$kit/$own" toolchain
+    link_but "$home/$tools" "$kit/$tools" bin
+    link_but "$home/$tools/bin" "$kit/$tools/bin" clang
+    {
+        echo '#!/usr/bin/env bash'
+        echo 'words=()'
+        echo 'for word in "$@"; do'
+        echo '    case $word in'
+        echo '        --target=*) words+=(--target=aarch64-unknown-linux-gnu -Wno-override-module) ;;'
+        echo '        -march=*) ;;'
+        echo '        *) words+=("$word") ;;'
+        echo '    esac'
+        echo 'done'
+        echo "exec '$home/$tools/bin/clang' \"\${words[@]}\""
+    } >"$kit/$tools/bin/clang"
+    chmod +x "$kit/$tools/bin/clang"
+    export RATTLE_HOME=$kit
+}
+
+# Whether the archive is there, for this machine, and newer than every source.
+archive_stands() {
+    [ -f "$archive" ] && [ -z "$(find crates crates.txt -newer "$archive" -type f -print -quit)" ] &&
+        readelf -h "$archive" 2>"$work/said" | grep -q "Machine:.*$machine"
+}
+
+# Proves and builds the archive where it does not stand.
 build_archive() {
-    if [ ! -f "$archive" ] || [ -n "$(find crates crates.txt -newer "$archive" -type f -print -quit)" ]; then
-        quiet rt staticlib sodgravel
-        say 'the archive is proved and built'
-    else
+    if archive_stands; then
         say 'the archive is newer than every source'
+    else
+        quiet rt staticlib sodgravel
+        archive_stands || fail "$archive is not for this machine"
+        say "the archive is proved and built for $machine"
     fi
 }
 

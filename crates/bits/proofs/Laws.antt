@@ -90,6 +90,10 @@ bits-back m (suc n) h =
     (bits-same (bit m) (bit (m % 2 ^ n)) n (λ o l. bit-low m n o l) ∙ bits-back (m % 2 ^ n) n (mod-lt m (pow-pos n)))
     ∙ div-add-mod' m (2 ^ n)
 
+-- a number without bits is 0
+pub bits-none : (p : ℕ → Bool) (n : ℕ) → ((o : ℕ) → o < n → p o ≡ false) → bitsOf p n ≡ 0
+bits-none p n h = bits-same p (bit 0) n (λ o l. h o l ∙ sym (bit-zero o)) ∙ bits-back 0 n (pow-pos n)
+
 -- ---- the bits of two numbers
 
 or-digits : (x y : ℕ) → x < 2 → y < 2 → eqb (bitOr x y) 1 ≡ (eqb x 1 || eqb y 1)

@@ -7,7 +7,7 @@ use mathlib.Core.Path.{_≡_, refl, sym, ap, _∙_, subst}
 use mathlib.Core.List.{List}
 use lib.ListN.{length, getD}
 use lib.Seq.{ext-getD}
-use Rattle.rules.specs.Text.{Row, at}
+use Rattle.rules.specs.Text.{Row, at, G, H, M}
 use Rattle.tables.specs.Layout.{laid, narrow, counted, schemaTables}
 use Rattle.tables.specs.Fill.{SchemaFits}
 use Rattle.tables.specs.Read.{cell}
@@ -16,7 +16,7 @@ use Rattle.tables.proofs.Narrow.{Stands, row-cell}
 use Rattle.tables.proofs.Schemas.{SchemaTable, has-table, takes-table, member-table, tables-length, tables-behind}
 use Rattle.tables.proofs.Schemas.{tables-low, tabled-stands, tabled-count}
 use Rattle.index.specs.Index.{linkCell, keys, Keyed, Chained, LinksLaid}
-use Rattle.index.specs.Buckets.{links, buckets, bucketAt, hasFrom, schemaLinked, SchemaStands, Linkable}
+use Rattle.index.specs.Buckets.{links, buckets, bucketAt, hasFrom, takesFrom, membersFrom, schemaLinked, SchemaStands, Linkable}
 use Rattle.index.proofs.Links.{tabled-length, tabled-at}
 use Rattle.index.proofs.Laying.{Linking}
 use Rattle.index.proofs.Areas.{rows-keys, linked-by}
@@ -92,11 +92,16 @@ pub record Tabled (n : ℕ) (rs : List Row) (at : ℕ) (a : List ℕ) : Type 0 w
   pub tables : (i : ℕ) → i < 9992 → cell a i ≡ cell (schemaTables n rs) i
   pub zeros : (i : ℕ) → at ≤ i → i < n → cell a i ≡ 0
 
--- the tables that are linked
-pub data LinkedTable : ℕ → ℕ → ℕ → ℕ → Type 0 where
-  has-links : LinkedTable 4 3 776 9992
-  takes-links : LinkedTable 5 4 3848 11528
-  member-links : LinkedTable 6 5 6920 13064
+-- the tables of pairs, which are linked: where the count, the rows and the links stand, and the letter
+pub data PairTable : ℕ → ℕ → ℕ → ℕ → ℕ → Type 0 where
+  has-pairs : PairTable 4 3 776 hasFrom H
+  takes-pairs : PairTable 5 4 3848 takesFrom G
+  member-pairs : PairTable 6 5 6920 membersFrom M
+
+pub pair-table : {k head base at letter : ℕ} → PairTable k head base at letter → SchemaTable k head base
+pair-table has-pairs = has-table
+pair-table takes-pairs = takes-table
+pair-table member-pairs = member-table
 
 module _ (n : ℕ) (rs : List Row) (room : 14600 ≤ n) (fits : SchemaFits rs) where
   pub tabled-start : Tabled n rs 9992 (schemaTables n rs)
@@ -113,23 +118,18 @@ module _ (n : ℕ) (rs : List Row) (room : 14600 ≤ n) (fits : SchemaFits rs) w
 
   -- ---- one table
 
-  link-table : {k head base at : ℕ} → LinkedTable k head base at → SchemaTable k head base
-  link-table has-links = has-table
-  link-table takes-links = takes-table
-  link-table member-links = member-table
-
   -- its links stand behind all tables, and before 14600
-  placed : {k head base at : ℕ} → LinkedTable k head base at → (counted k rs ≤ 1024) × (9992 ≤ at) × (at ≤ 13064)
-  placed has-links = (fits .has, omega arith, omega arith)
-  placed takes-links = (fits .takes, omega arith, omega arith)
-  placed member-links = (fits .members, omega arith, omega arith)
+  placed : {k head base at letter : ℕ} → PairTable k head base at letter → (counted k rs ≤ 1024) × (9992 ≤ at) × (at ≤ 13064)
+  placed has-pairs = (fits .has, omega arith, omega arith)
+  placed takes-pairs = (fits .takes, omega arith, omega arith)
+  placed member-pairs = (fits .members, omega arith, omega arith)
 
-  module _ {k head base at : ℕ} (table : LinkedTable k head base at) where
+  module _ {k head base at letter : ℕ} (table : PairTable k head base at letter) where
     table-stands : {a : List ℕ} {to : ℕ} → Tabled n rs to a → Stands a k base rs
-    table-stands {a} t = tabled-stands n rs (omega arith) fits a (t .tables) (link-table table)
+    table-stands {a} t = tabled-stands n rs (omega arith) fits a (t .tables) (pair-table table)
 
     table-count : {a : List ℕ} {to : ℕ} → Tabled n rs to a → cell a head ≡ counted k rs
-    table-count {a} t = tabled-count n rs (omega arith) fits a (t .tables) (link-table table)
+    table-count {a} t = tabled-count n rs (omega arith) fits a (t .tables) (pair-table table)
 
     module _ {a : List ℕ} (t : Tabled n rs at a) (m : ℕ) (is : m ≡ counted k rs) where
       table-linkable : Linkable a base m at
@@ -140,7 +140,7 @@ module _ (n : ℕ) (rs : List Row) (room : 14600 ≤ n) (fits : SchemaFits rs) w
           let long = t .same in
           record {
             few = omega arith;
-            front = omega (arith, p .1, tables-low n rs (omega arith) fits (link-table table) .0);
+            front = omega (arith, p .1, tables-low n rs (omega arith) fits (pair-table table) .0);
             blank = record {
               long = omega arith;
               low = low;
@@ -162,34 +162,34 @@ module _ (n : ℕ) (rs : List Row) (room : 14600 ≤ n) (fits : SchemaFits rs) w
     pub tables-long : 9992 ≤ length a₀
     tables-long = omega (arith, start .same)
 
-    pub tables-few : {k head base at : ℕ} → LinkedTable k head base at → cell a₀ head ≤ 1024
+    pub tables-few : {k head base at letter : ℕ} → PairTable k head base at letter → cell a₀ head ≤ 1024
     tables-few table = omega (arith, table-count table start, placed table .0)
 
     pub has-linkable : Linkable a₀ 776 (cell a₀ 3) 9992
-    has-linkable = table-linkable has-links start (cell a₀ 3) (table-count has-links start)
+    has-linkable = table-linkable has-pairs start (cell a₀ 3) (table-count has-pairs start)
 
     module _ (a₁ : List ℕ) (first : LinksLaid (keys (bucketAt a₀ 776) (cell a₀ 3)) 9992 a₀ a₁) where
       second : Tabled n rs 11528 a₁
       second = tabled-on start (omega arith) first
 
       pub takes-linkable : Linkable a₁ 3848 (cell a₀ 4) 11528
-      takes-linkable = table-linkable takes-links second (cell a₀ 4) (table-count takes-links start)
+      takes-linkable = table-linkable takes-pairs second (cell a₀ 4) (table-count takes-pairs start)
 
       module _ (a₂ : List ℕ) (next : LinksLaid (keys (bucketAt a₁ 3848) (cell a₀ 4)) 11528 a₁ a₂) where
         third : Tabled n rs 13064 a₂
         third = tabled-on second (omega arith) next
 
         pub members-linkable : Linkable a₂ 6920 (cell a₀ 5) 13064
-        members-linkable = table-linkable member-links third (cell a₀ 5) (table-count member-links start)
+        members-linkable = table-linkable member-pairs third (cell a₀ 5) (table-count member-pairs start)
 
         pub schema-laid : (a₃ : List ℕ) → LinksLaid (keys (bucketAt a₂ 6920) (cell a₀ 5)) 13064 a₂ a₃ → a₃ ≡ schemaLinked n rs
         unfolding schemaLinked
         schema-laid a₃ last =
-            table-laid member-links third (cell a₀ 5) (table-count member-links start) last
+            table-laid member-pairs third (cell a₀ 5) (table-count member-pairs start) last
             ∙ ap (laid 13064 (links 1536 (buckets 6 rs)))
-            (table-laid takes-links second (cell a₀ 4) (table-count takes-links start) next
+            (table-laid takes-pairs second (cell a₀ 4) (table-count takes-pairs start) next
             ∙ ap (laid 11528 (links 1536 (buckets 5 rs)))
-            (table-laid has-links start (cell a₀ 3) (table-count has-links start) first
+            (table-laid has-pairs start (cell a₀ 3) (table-count has-pairs start) first
             ∙ ap (laid 9992 (links 1536 (buckets 4 rs))) tables))
 
   -- ---- the area with all links
@@ -219,12 +219,12 @@ module _ (n : ℕ) (rs : List Row) (room : 14600 ≤ n) (fits : SchemaFits rs) w
   pub schema-tabled : Tabled n rs 14600 (schemaLinked n rs)
   schema-tabled = tabled-on takes-tabled (omega arith) members-laid
 
-  schema-cell : {k head base at : ℕ} → LinkedTable k head base at → (i : ℕ) → i < 1536
+  schema-cell : {k head base at letter : ℕ} → PairTable k head base at letter → (i : ℕ) → i < 1536
       → cell (schemaLinked n rs) (at + i) ≡ linkCell (buckets k rs) i
-  schema-cell has-links i h =
+  schema-cell has-pairs i h =
       (members-laid .below) (9992 + i) (omega arith) ∙ (takes-laid .below) (9992 + i) (omega arith) ∙ (has-laid .inside) i h
-  schema-cell takes-links i h = (members-laid .below) (11528 + i) (omega arith) ∙ (takes-laid .inside) i h
-  schema-cell member-links i h = (members-laid .inside) i h
+  schema-cell takes-pairs i h = (members-laid .below) (11528 + i) (omega arith) ∙ (takes-laid .inside) i h
+  schema-cell member-pairs i h = (members-laid .inside) i h
 
   -- what is laid stands, and whatever has the same in front of the links' end
   pub linked-stands : SchemaStands (schemaLinked n rs) rs
@@ -242,11 +242,11 @@ module _ (a : List ℕ) (rs : List Row) (stands : SchemaStands a rs) (fits : Sch
   standing-tables i h = (stands .same) i (omega arith) ∙ (schema-tabled n rs (stands .long) fits .tables) i h
 
   -- A table of the schema is linked by its buckets.
-  pub schema-linked : {k head base at : ℕ} → LinkedTable k head base at → Chained (bucketAt a base) (cell a head) a at
+  pub schema-linked : {k head base at letter : ℕ} → PairTable k head base at letter → Chained (bucketAt a base) (cell a head) a at
   schema-linked {k} {head} {base} {at} table =
       let room = stands .long in
-      let tables = tabled-stands n rs (omega arith) fits a standing-tables (link-table n rs room fits table) in
-      let count = tabled-count n rs (omega arith) fits a standing-tables (link-table n rs room fits table) in
+      let tables = tabled-stands n rs (omega arith) fits a standing-tables (pair-table table) in
+      let count = tabled-count n rs (omega arith) fits a standing-tables (pair-table table) in
       let p = placed n rs room fits table in
       linked-by (bucketAt a base) (cell a head) (buckets-keyed a base (cell a head) (omega (arith, count, p .0))) a at
       (omega (arith, p .2)) (p .2)

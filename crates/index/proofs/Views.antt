@@ -8,17 +8,17 @@ use lib.Dec.{eqb, ltb}
 use lib.ListN.{length, getD, List·getD-eq-default}
 use borrow.Author.Tests.{ltb-true, ltb-false}
 use Rattle.rules.specs.Lists.{those, any}
-use Rattle.rules.specs.Text.{Row, noRow, at, A, F, G, H, M, fieldNo, typeNo}
+use Rattle.rules.specs.Text.{Row, noRow, at, A, F, H, M, fieldNo, typeNo}
 use Rattle.rules.specs.Schema.{schemaOf, is, nth, states, begins}
 use Rattle.tables.specs.Fill.{SchemaFits}
 use Rattle.tables.specs.Layout.{narrow, belongs, counted, schemaHead}
 use Rattle.tables.specs.Read.{cell, narrowAt, pairIn, firstIn, secondsIn, schemaAt}
 use Rattle.tables.proofs.Those.{those-pass}
 use Rattle.tables.proofs.Narrow.{Stands, narrow-at, pairs-in, firsts-in, seconds-in}
-use Rattle.tables.proofs.Schemas.{SchemaTable, type-table, field-table, arg-table, has-table, takes-table, member-table}
+use Rattle.tables.proofs.Schemas.{SchemaTable, type-table, field-table, arg-table}
 use Rattle.tables.proofs.Schemas.{tables-head, tabled-stands, tabled-count}
 use Rattle.index.specs.Buckets.{SchemaStands}
-use Rattle.index.proofs.Buckets.{standing-tables}
+use Rattle.index.proofs.Buckets.{PairTable, has-pairs, takes-pairs, member-pairs, pair-table, standing-tables}
 
 -- ---- the tables: what stands behind them does not matter
 
@@ -36,25 +36,14 @@ module _ (a : List ℕ) (rs : List Row) (stands : SchemaStands a rs) (fits : Sch
 
 -- ---- pairs among the first lines
 
--- the tables of pairs, with their letters
-pub data PairTable : ℕ → ℕ → ℕ → ℕ → Type 0 where
-  has-pairs : PairTable 4 3 776 H
-  takes-pairs : PairTable 5 4 3848 G
-  member-pairs : PairTable 6 5 6920 M
-
-pair-table : {k head base letter : ℕ} → PairTable k head base letter → SchemaTable k head base
-pair-table has-pairs = has-table
-pair-table takes-pairs = takes-table
-pair-table member-pairs = member-table
-
-pair-letter : {k head base letter : ℕ} → PairTable k head base letter → belongs k ≡ is letter
+pair-letter : {k head base at letter : ℕ} → PairTable k head base at letter → belongs k ≡ is letter
 unfolding belongs
 pair-letter has-pairs = fun-ext (λ r. refl)
 pair-letter takes-pairs = fun-ext (λ r. refl)
 pair-letter member-pairs = fun-ext (λ r. refl)
 
 module _ (a : List ℕ) (ps rs : List Row) (stands : SchemaStands a (ps ++ rs)) (fits : SchemaFits (ps ++ rs))
-    {k head base letter : ℕ} (t : PairTable k head base letter) where
+    {k head base links letter : ℕ} (t : PairTable k head base links letter) where
   here : Stands a k base (ps ++ rs)
   here = schema-stands a (ps ++ rs) stands fits (pair-table t)
 
@@ -107,7 +96,7 @@ module _ (a : List ℕ) (rs : List Row) (stands : SchemaStands a rs) (fits : Sch
       → ask (counted k rs) ≡ x → ask (cell a head) ≡ x
   all-rows t ask x e = ap ask (schema-count a rs stands fits t) ∙ e
 
-  module _ {k head base letter : ℕ} (t : PairTable k head base letter) where
+  module _ {k head base links letter : ℕ} (t : PairTable k head base links letter) where
     pairs-all : (x y : ℕ) → pairIn a base (cell a head) x y ≡ any (states letter x y) rs
     pairs-all x y = all-rows (pair-table t) (λ c. pairIn a base c x y) _ (pairs-before a rs [] whole-stands whole-fits t x y)
 

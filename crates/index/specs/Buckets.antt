@@ -1,5 +1,5 @@
--- The front of the schema's area: its tables, and behind them the links of H, G and M, whose rows are looked for by their first numbers. A key is below
--- 512 and a number need not be, so that a row's key is its bucket: the remainder of its first number. Assumes nothing.
+-- The front of the schema's area: its tables, and behind them the links of H, G and M, whose rows are looked for by their first numbers.
+-- A key is below 512 and a number need not be, so that a row's key is its bucket: the remainder of its first number. Assumes nothing.
 use Prim.Native.Nat.{ℕ, _+_, _*_, _%_, _≤_, _<_}
 use mathlib.Core.Path.{_≡_}
 use mathlib.Core.List.{List, map}

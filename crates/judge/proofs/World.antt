@@ -1,4 +1,5 @@
--- The World read from the tables is the World of the texts: after an accepted verdict nothing of bytes is needed. Assumes nothing.
+-- The World read from the tables is the World of the texts: after an accepted verdict nothing of bytes is needed. And the masks that are
+-- left agree with the rule. Assumes nothing.
 use Prim.Native.Nat.{ℕ, _≤_}
 use mathlib.Core.Path.{_≡_, refl, ap, _∙_}
 use mathlib.Core.Bool.{Bool, true, false, _&&_}

@@ -4,7 +4,7 @@ use native.Mathlib.Omega.{arith}
 use native.Mathlib.Decide.{ℕ-discrete}
 use native.Mathlib.Numerals.{add-one}
 use mathlib.Core.Path.{_≡_, refl, sym, ap, ap₂, _∙_}
-use mathlib.Core.Bool.{Bool, true, false, cond, _&&_, _||_, false≢true}
+use mathlib.Core.Bool.{Bool, true, false, cond, _&&_, _||_, or-false, or-assoc, false≢true}
 use mathlib.Core.List.{List}
 use lib.Bits.{bitOr}
 use lib.Dec.{eqb, ltb}
@@ -29,25 +29,17 @@ use Rattle.masks.proofs.Membership.{rule, object-declared, members-decl
 
 -- ---- tests
 
-pub eqb-swap : (x y : ℕ) → eqb x y ≡ eqb y x
+eqb-swap : (x y : ℕ) → eqb x y ≡ eqb y x
 eqb-swap x y =
     by-test (eqb x y)
     (λ e. e ∙ sym (eq-eqb y x (sym (eqb-true x y e))))
     (λ e. e ∙ sym (ne-eqb y x (λ z. eqb-false x y e (sym z))))
 
-or-none : (a : Bool) → (a || false) ≡ a
-or-none true = refl
-or-none false = refl
-
-or-group : (a b e : Bool) → ((a || b) || e) ≡ (a || (b || e))
-or-group true b e = refl
-or-group false b e = refl
-
 any-more : (p : ℕ → Bool) (i n : ℕ) → any p (countUp i (suc n)) ≡ (any p (countUp i n) || p (i + n))
-any-more p i zero = or-none (p i) ∙ ap p (omega arith)
+any-more p i zero = or-false (p i) ∙ ap p (omega arith)
 any-more p i (suc n) =
     ap (λ (b : Bool). p i || b) (any-more p (suc i) n ∙ ap (λ (k : ℕ). any p (countUp (suc i) n) || p k) (omega arith))
-    ∙ sym (or-group (p i) (any p (countUp (suc i) n)) (p (i + suc n)))
+    ∙ sym (or-assoc (p i) (any p (countUp (suc i) n)) (p (i + suc n)))
 
 -- the next of the first n
 next-any : (p : ℕ → Bool) (n : ℕ) → any p (countUp 0 (suc n)) ≡ (any p (countUp 0 n) || p n)
@@ -70,7 +62,7 @@ module _ (p : ℕ → ℕ → Bool) (t o : ℕ) where
   one-there : (x : ℕ) → (x ≡ t → ⊥) → bitsOf (withOne x) 64 ≡ bitsOf (p x) 64
   one-there x e =
       bits-same (withOne x) (p x) 64
-      (λ y l. ap (λ (b : Bool). p x y || (b && eqb o y)) (ne-eqb t x (λ z. e (sym z))) ∙ or-none (p x y))
+      (λ y l. ap (λ (b : Bool). p x y || (b && eqb o y)) (ne-eqb t x (λ z. e (sym z))) ∙ or-false (p x y))
 
 module _ (p : ℕ → ℕ → Bool) (a : List ℕ) (room : schemaNeeded ≤ length a) (t o : ℕ) (h : t < 64) (k : o < 64) where
   abbrev b : List ℕ
@@ -259,14 +251,14 @@ module _ (a : List ℕ) (room : schemaNeeded ≤ length a) where
 
       less : eqb (letterAt a n) O ≡ false → (x y : ℕ) → ownTo a n x y ≡ ownTo a (suc n) x y
       less g x y =
-          sym (or-none (ownTo a n x y))
+          sym (or-false (ownTo a n x y))
           ∙ ap (λ (d : Bool). ownTo a n x y || (d && (eqb n x && eqb n y))) (sym g)
           ∙ sym (next-any (ownAt a x y) n)
 
   pub members-masked : (n m : ℕ) → m ≤ 1024 → ((j : ℕ) → j < m → (typeAt a j < 64) × (objectAt a j < 64))
       → membersJoined (masked (ownTo a n) a) m ≡ masked (joinsTo a n m) a
   unfolding joinedBy memberJoined joinsTo pairAt
-  members-masked n zero h small = masked-same _ _ a room (λ x y l k. sym (or-none (ownTo a n x y)))
+  members-masked n zero h small = masked-same _ _ a room (λ x y l k. sym (or-false (ownTo a n x y)))
   members-masked n (suc m) h small =
       let p = joinsTo a n m in
       let t = typeAt a m in
@@ -276,7 +268,7 @@ module _ (a : List ℕ) (room : schemaNeeded ≤ length a) where
       ∙ ap₂ (joined (masked p a)) (masked-front p a room (memberRows + 3 * m + 1) (omega arith)) (masked-front p a room (memberRows + 3 * m + 2) (omega arith))
       ∙ mask-joined p a room t o (both .0) (both .1)
       ∙ masked-same _ _ a room (λ x y l k.
-      or-group (ownTo a n x y) (any (pairAt a memberRows x y) (countUp 0 m)) (pairAt a memberRows x y m)
+      or-assoc (ownTo a n x y) (any (pairAt a memberRows x y) (countUp 0 m)) (pairAt a memberRows x y m)
       ∙ ap (λ (d : Bool). ownTo a n x y || d) (sym (next-any (pairAt a memberRows x y) m)))
 
 -- ---- what the tables ask for is what the rule says

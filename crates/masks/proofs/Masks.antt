@@ -10,7 +10,7 @@ use lib.ListN.{length, getD}
 use lib.Seq.{ext-getD}
 use borrow.Author.Tests.{lt-ltb}
 use Rattle.bits.specs.Bits.{bit, bitsOf}
-use Rattle.bits.proofs.Laws.{bit-zero, bits-same, bits-back, halves}
+use Rattle.bits.proofs.Laws.{bits-same, bits-none, halves}
 use Rattle.index.proofs.Links.{tabled-length, tabled-at}
 use Rattle.masks.specs.Masks.{masksFrom, schemaNeeded, cellSize, filled, halfOf, maskCells, masked, maskAt}
 use Rattle.tables.specs.Read.{cell}
@@ -114,7 +114,7 @@ masked-same p q a room e =
 -- no bit is set where zeros stand
 pub masked-none : (a : List ℕ) → schemaNeeded ≤ length a → ((i : ℕ) → masksFrom ≤ i → i < schemaNeeded → cell a i ≡ 0) → masked (λ _ _. false) a ≡ a
 masked-none a room blank =
-    let z : bitsOf (λ _. false) 64 ≡ 0 = bits-same (λ _. false) (bit 0) 64 (λ o h. sym (bit-zero o)) ∙ bits-back 0 64 (omega arith) in
+    let z : bitsOf (λ _. false) 64 ≡ 0 = bits-none (λ _. false) 64 (λ o h. refl) in
     sym
     (masked-is (λ _ _. false) a room a refl (λ i h. refl) (λ i h. refl)
     (λ t h. blank (masksFrom + 2 * t) (omega arith) (omega arith) ∙ sym (ap (λ (m : ℕ). m % cellSize) z))

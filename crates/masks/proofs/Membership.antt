@@ -15,7 +15,7 @@ use Rattle.rules.specs.declared.TypeNo.{TypeNo}
 use Rattle.rules.proofs.Bools.{and-true-left, and-true-right, clash}
 use Rattle.text.proofs.Tools.{by-test}
 use Rattle.bits.specs.Bits.{bit}
-use Rattle.bits.proofs.Laws.{bit-zero, bit-in, bit-above, bits-small, bits-same, bits-back}
+use Rattle.bits.proofs.Laws.{bit-in, bit-above, bits-small, bits-none}
 use Rattle.masks.specs.Masks.{memberOf, membersOf, MembersSound}
 
 -- ---- tests
@@ -62,20 +62,24 @@ module _ (s : Schema) (sound : MembersSound s) where
       (λ e. let c = and-true-right (isObject s (typeNo o)) (compatible s (typeNo o) (typeNo t)) h in
       members-declared s (typeNo t) ((sound .given) (typeNo t) (typeNo o) (rw e at c) .0) z)
 
+  -- so that both are below 64
+  no-member : (t o : ℕ) → (64 ≤ t) ⊎ (64 ≤ o) → memberOf s t o ≡ false
+  no-member t o far =
+      by-test (memberOf s t o)
+      (λ e. let low = (sound .below) (typeNo t) (member-type t o e) in
+      let own = (sound .below) (typeNo o) (object-declared s (typeNo o) (member-object t o e)) in
+      absurd (elim far [ inl h ↦ omega arith | inr h ↦ omega arith ]))
+      (λ e. e)
+
   -- Bit o is set exactly where o is an object type that is compatible with t, whatever number o is.
   pub bit-member : (t : TypeNo) (o : ℕ) → bit (membersOf s t) o ≡ (isObject s (typeNo o) && compatible s (typeNo o) t)
   unfolding membersOf memberOf
   bit-member t o = go (decLt o 64)
     where
-      far : 64 ≤ o → memberOf s (t .0) o ≡ false
-      far h =
-          by-test (memberOf s (t .0) o)
-          (λ e. let l = (sound .below) (typeNo o) (object-declared s (typeNo o) (member-object (t .0) o e)) in absurd (omega arith))
-          (λ e. e)
-
       go : Dec (o < 64) → bit (membersOf s t) o ≡ memberOf s (t .0) o
       go (yes h) = bit-in (memberOf s (t .0)) 64 o h
-      go (no h) = bit-above (membersOf s t) 64 o (bits-small (memberOf s (t .0)) 64) (omega arith) ∙ sym (far (omega arith))
+      go (no h) =
+          bit-above (membersOf s t) 64 o (bits-small (memberOf s (t .0)) 64) (omega arith) ∙ sym (no-member (t .0) o (inr (omega arith)))
 
   -- No bit is set for an undeclared number, and none of an undeclared number.
   pub bit-undeclared : (t : TypeNo) (o : ℕ) → (kind s t ≡ 0) ⊎ (kind s (typeNo o) ≡ 0) → bit (membersOf s t) o ≡ false
@@ -90,23 +94,15 @@ module _ (s : Schema) (sound : MembersSound s) where
       ]))
       (λ e. e)
 
-  -- A number of 64 or more has no members,
+  -- A number of 64 or more has no bit,
+  pub bit-far : (t : TypeNo) (o : ℕ) → (64 ≤ t .0) ⊎ (64 ≤ o) → bit (membersOf s t) o ≡ false
+  unfolding memberOf
+  bit-far t o far = bit-member t o ∙ no-member (t .0) o far
+
+  -- and no members.
   pub none-far : (t : TypeNo) → 64 ≤ t .0 → membersOf s t ≡ 0
   unfolding membersOf
-  none-far t h =
-      bits-same (memberOf s (t .0)) (bit 0) 64 (λ o l. none o ∙ sym (bit-zero o)) ∙ bits-back 0 64 (omega arith)
-    where
-      none : (o : ℕ) → memberOf s (t .0) o ≡ false
-      none o =
-          by-test (memberOf s (t .0) o)
-          (λ e. let l = (sound .below) t (member-type (t .0) o e) in absurd (omega arith))
-          (λ e. e)
-
-  -- and no bit.
-  pub bit-far : (t : TypeNo) (o : ℕ) → (64 ≤ t .0) ⊎ (64 ≤ o) → bit (membersOf s t) o ≡ false
-  unfolding membersOf
-  bit-far t o (inl h) = ap (λ (m : ℕ). bit m o) (none-far t h) ∙ bit-zero o
-  bit-far t o (inr h) = bit-above (membersOf s t) 64 o (bits-small (memberOf s (t .0)) 64) h
+  none-far t h = bits-none (memberOf s (t .0)) 64 (λ o l. no-member (t .0) o (inl h))
 
   -- The bits of a type but its own are its members by `M`.
   pub bit-other : (t o : TypeNo) → (o .0 ≡ t .0 → ⊥) → bit (membersOf s t) (o .0) ≡ (s .hasMember) t o

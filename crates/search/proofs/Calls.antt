@@ -19,7 +19,7 @@ use Rattle.tables.proofs.Labelling.{Formed, edge-labelled, property-labelled}
 use Rattle.tables.proofs.Areas.{values-before, each-split, node-length, node-count, edge-count, edges-stand}
 use Rattle.tables.proofs.Areas.{property-length, property-count, properties-stand}
 use Rattle.tables.proofs.Schemas.{type-table, field-table, arg-table, has-table, takes-table, member-table}
-use Rattle.index.proofs.Buckets.{has-links, takes-links, member-links, schema-linked}
+use Rattle.index.proofs.Buckets.{has-pairs, takes-pairs, member-pairs, schema-linked}
 use Rattle.index.proofs.Views.{schema-count}
 use Rattle.schema.specs.Held.{Bucketed, SchemaHeld}
 use Rattle.graph.specs.Held.{NodesHeld, PropertiesHeld}
@@ -35,9 +35,9 @@ schema-held a rs stands fits =
       has = omega (arith, schema-count a rs stands fits has-table, fits .has);
       takes = omega (arith, schema-count a rs stands fits takes-table, fits .takes);
       members = omega (arith, schema-count a rs stands fits member-table, fits .members);
-      hasLinks = schema-linked a rs stands fits has-links;
-      takesLinks = schema-linked a rs stands fits takes-links;
-      memberLinks = schema-linked a rs stands fits member-links;
+      hasLinks = schema-linked a rs stands fits has-pairs;
+      takesLinks = schema-linked a rs stands fits takes-pairs;
+      memberLinks = schema-linked a rs stands fits member-pairs;
     }
 
 module _ (n : ℕ) (rs : List Row) (room : 15880 ≤ n) (fits : GraphFits rs) (formed : Each Formed rs) where

@@ -20,7 +20,8 @@ use Rattle.tables.specs.Fill.{SchemaFits}
 use Rattle.tables.specs.Read.{schemaAt, pairAt, pairIn}
 use Rattle.tables.proofs.Those.{those-reverse, any-reverse}
 use Rattle.tables.proofs.Wide.{padded-at}
-use Rattle.index.proofs.Views.{PairTable, has-pairs, takes-pairs, member-pairs, pairs-before}
+use Rattle.index.proofs.Buckets.{PairTable, has-pairs, takes-pairs, member-pairs}
+use Rattle.index.proofs.Views.{pairs-before}
 use Rattle.schema.specs.Faults.{rowFor, fault12, fault14, fault15}
 use Rattle.search.specs.Count.{countsOf}
 use Rattle.search.specs.Search.{pairBase, pairCount}
@@ -61,7 +62,7 @@ module _ (a : List ℕ) (ps rs : List Row) (stands : SchemaStands a (ps ++ rs)) 
       (among l (H ∷ G ∷ M ∷ []) && any (states l u v) (reverse ps))
       ≡ any (pairAt a (pairBase l) u v) (countUp 0 (pairCount (countsOf ps) l))
 
-  paired : {k head base letter : ℕ} → PairTable k head base letter
+  paired : {k head base at letter : ℕ} → PairTable k head base at letter
       → any (states letter u v) (reverse ps) ≡ any (pairAt a base u v) (countUp 0 (counted k ps))
   unfolding pairIn
   paired {letter = letter} t = any-reverse (states letter u v) ps ∙ sym (pairs-before a ps rs stands fits t u v)

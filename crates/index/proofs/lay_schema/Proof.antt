@@ -4,7 +4,7 @@ use native.Mathlib.Omega.{arith}
 use lib.ListN.{length}
 use borrow.Author.Needs.{needs}
 use Rattle.tables.specs.Read.{cell}
-use Rattle.index.proofs.Buckets.{LinkedTable, has-links, takes-links, member-links, tables-long, tables-few, has-linkable, takes-linkable, members-linkable, schema-laid}
+use Rattle.index.proofs.Buckets.{PairTable, has-pairs, takes-pairs, member-pairs, tables-long, tables-few, has-linkable, takes-linkable, members-linkable, schema-laid}
 use Rattle.index.proofs.lay_schema.Statement.{statement}
 use Rattle.index.proofs.lay_schema.Tie as tie
 
@@ -28,7 +28,7 @@ long : (c : tie.After-lay-schema) → 9992 ≤ length (c .lay-schema .last .1 .0
 long c = let p = start c .pre in tables-long _ _ (p .1 .1 .1) (p .1 .1 .0) _ (c .lay-schema .ensures)
 
 -- and their counts are small
-few : (c : tie.After-lay-schema) {k head base at : ℕ} → LinkedTable k head base at → cell (c .lay-schema .last .1 .0) head ≤ 1024
+few : (c : tie.After-lay-schema) {k head base at letter : ℕ} → PairTable k head base at letter → cell (c .lay-schema .last .1 .0) head ≤ 1024
 few c table = let p = start c .pre in tables-few _ _ (p .1 .1 .1) (p .1 .1 .0) _ (c .lay-schema .ensures) table
 
 slice-read-has : tie.Need-slice-read-has
@@ -36,21 +36,21 @@ slice-read-has c = omega (arith, long (c .before .before .before))
 
 cast-has : tie.Need-cast-has
 unfolding cell
-cast-has c = omega (arith, few (c .before .before .before) has-links)
+cast-has c = omega (arith, few (c .before .before .before) has-pairs)
 
 slice-read-takes : tie.Need-slice-read-takes
 slice-read-takes c = omega (arith, long (c .before .before .before .before))
 
 cast-takes : tie.Need-cast-takes
 unfolding cell
-cast-takes c = omega (arith, few (c .before .before .before .before) takes-links)
+cast-takes c = omega (arith, few (c .before .before .before .before) takes-pairs)
 
 slice-read-members : tie.Need-slice-read-members
 slice-read-members c = omega (arith, long (c .before .before .before .before .before))
 
 cast-members : tie.Need-cast-members
 unfolding cell
-cast-members c = omega (arith, few (c .before .before .before .before .before) member-links)
+cast-members c = omega (arith, few (c .before .before .before .before .before) member-pairs)
 
 lay-buckets-requires : tie.Need-lay-buckets-requires
 unfolding cell

@@ -32,9 +32,9 @@ class Case:
     def framed(self):
         """The case as the program reads it."""
         numbers = (self.call, self.room, self.filling, *self.areas, self.buffer)
-        parts = [b"\t".join(b"%09d" % n for n in numbers) + b"\n"]
+        parts = [b"\t".join(b"%010d" % n for n in numbers) + b"\n"]
         for text in self.texts:
-            parts += [b"%09d\n" % len(text), text]
+            parts += [b"%010d\n" % len(text), text]
         return b"".join(parts)
 
     def expected(self):
@@ -405,7 +405,7 @@ def main(only_list):
         return
     folder = os.path.join(REPOSITORY, "crates", "cases")
     with open(os.path.join(folder, "stdin"), "wb") as file:
-        file.write(b"%09d\n" % len(cases) + b"".join(case.framed() for case in cases))
+        file.write(b"%010d\n" % len(cases) + b"".join(case.framed() for case in cases))
     with open(os.path.join(folder, "stdout"), "w") as file:
         file.write("".join(written))
     print("%d cases" % len(cases))

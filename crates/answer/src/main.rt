@@ -4,15 +4,13 @@ ghost use Prim.Native.Nat.{_≤_};
 ghost use lib.ListN.{length};
 ghost use Rattle.io.specs.Counts.{Counts};
 use libc::STDOUT_FILENO;
+use rules::LABELS;
 use rules::Outcome;
 
 // The room that the program gives, and the response buffer's length.
 const ROOM: usize = 16384;
 
-// Tokens below this are values. From here on to MARKS they are labels.
-const LABELS: u32 = 1_000_000_000;
-
-// From here on tokens are the marks.
+// From here on tokens are the marks; below LABELS they are values, and between the two labels.
 const MARKS: u32 = 2_000_000_000;
 
 // Reads the start of a file, as much as `text` holds, and answers its length. A file that cannot be opened counts as empty.

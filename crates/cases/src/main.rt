@@ -1,12 +1,14 @@
 // Runs the public calls on the cases that standard input has, and writes a line for each. No case stands in the code:
 // tests/make_cases.py writes the cases (`stdin`), and what 01's rules ask of them (`stdout`) by way of tests/reference.py.
 //
-// Every number of the input is nine digits and one further byte. The first says how many cases follow. A case has eleven numbers:
-// the call (0 sizes, 1 answers), the room, the number that fills areas and buffer before the call, the lengths of the seven areas
-// and of the buffer; then, for each of the three texts, its length and its bytes.
+// Every number of the input is ten digits and one further byte. The first says how many cases follow, and the first of a case is the
+// call: 0 sizes, 1 answers, 2 judges. Where it sizes or answers there follow the room, the number that fills areas and buffer before
+// the call, the lengths of the seven areas and of the buffer; then, for each of the three texts, its length and its bytes. Where it
+// judges there follows, for the full and for the shortened sequence, how many tokens it has, and the tokens.
 //
-// A line has the case's number, from 1 on; refusal number, place, size and visits; how many numbers of each of the seven areas are
-// not zero after the call; and the digest of the buffer after the call.
+// A line has the case's number, from 1 on. Where the call sizes or answers: refusal number, place, size and visits; how many numbers
+// of each of the seven areas are not zero after the call; and the digest of the buffer after the call. Where it judges: 1 for yes
+// or 0; refusal number, place, size and visits.
 ghost use Prim.Native.Nat.{_≤_};
 ghost use lib.ListN.{length};
 ghost use Rattle.io.specs.Counts.{Counts};
@@ -14,18 +16,18 @@ use libc::STDIN_FILENO;
 use libc::STDOUT_FILENO;
 use rules::Outcome;
 
-// The number that nine digits show.
-fn shown(digits: &[u8; 10]) -> u32 {
-    let mut number: u32 = 0;
-    for i in 0..9 {
-        number = number % 100_000_000 * 10 + (digits[i] % 16) as u32;
+// The number that ten digits show, if it is below 2 to the 32nd; what remains of a larger one.
+fn shown(digits: &[u8; 11]) -> u32 {
+    let mut number: u64 = 0;
+    for i in 0..10 {
+        number = number % 1_000_000_000 * 10 + (digits[i] % 16) as u64;
     }
-    number
+    number as u32
 }
 
 // Reads a number.
 fn read_number() -> u32 {
-    let mut digits = [0u8; 10];
+    let mut digits = [0u8; 11];
     io::read_full(STDIN_FILENO, &mut digits);
     shown(&digits)
 }
@@ -59,6 +61,31 @@ fn read_text(text: &mut [u8]) -> usize
     let length = io::count(read_number() as isize, text);
     io::read_full(STDIN_FILENO, &mut text[..length]);
     length
+}
+
+// Reads as many tokens as are wanted.
+fn fill(tokens: &mut [u32]) {
+    for i in 0..tokens.len() {
+        tokens[i] = read_number();
+    }
+}
+
+// Reads past `count` numbers.
+fn skip(count: u32) {
+    for _ in 0..count {
+        read_number();
+    }
+}
+
+// Reads how many tokens a sequence has, and the tokens, of which no more are kept than there is room for; answers how many are kept.
+fn read_tokens(tokens: &mut [u32]) -> usize
+    ensures { λ r. ⌜ Counts r (now (tokens .exit)) ⌝ }
+{
+    let count = read_number();
+    let kept = capped(count, tokens.len());
+    fill(&mut tokens[..kept]);
+    skip(count - kept as u32);
+    kept
 }
 
 // 1 where something is so, and 0 where it is not.
@@ -176,9 +203,22 @@ fn run_in(
     io::write_all(STDOUT_FILENO, b"\n");
 }
 
-// Reads a case's numbers, and runs it. An area is at most one number longer than needed, and the buffer than the largest room.
-fn run_case() {
-    let call = read_number();
+// Reads two sequences, judges them, and writes the line but for the case's number. Of a sequence that is longer than any response one
+// token more than the most is kept.
+fn run_judging() {
+    let mut full = [0u32; 16385];
+    let mut shortened = [0u32; 16385];
+    let full_length = read_tokens(&mut full);
+    let shortened_length = read_tokens(&mut shortened);
+    let reply = shorten::judge(&full[..full_length], &shortened[..shortened_length]);
+    print_field(reply.yes as u64);
+    print_outcome(reply.outcome);
+    io::write_all(STDOUT_FILENO, b"\n");
+}
+
+// Reads the numbers of a call that sizes or answers, and runs it. An area is at most one number longer than needed, and the buffer
+// than the largest room.
+fn run_call(call: u32) {
     let room = read_number();
     let filling = read_number();
     let mut a = [filling; 14729];
@@ -209,6 +249,16 @@ fn run_case() {
         &mut m[..m_length],
         &mut buffer[..buffer_length],
     );
+}
+
+// Runs a case.
+fn run_case() {
+    let call = read_number();
+    if call == 2 {
+        run_judging();
+        return;
+    }
+    run_call(call);
 }
 
 fn main() {

@@ -11,18 +11,14 @@ ghost use Rattle.query.specs.Entries.{QueryHeld};
 ghost use Rattle.world.specs.World.{worldAt, WorldHeld, askedAt, lookupAt, foundBy};
 ghost use Rattle.evaluate.specs.Write.{Room, Wrote};
 ghost use Rattle.evaluate.specs.Evaluate.{selected, entered, enlisted, braced, QueryLabelled};
+use rules::CLOSE_LIST;
+use rules::CLOSE_OBJECT;
 use rules::FieldNo;
+use rules::LABELS;
+use rules::NULL;
+use rules::OPEN_LIST;
+use rules::OPEN_OBJECT;
 use rules::TypeNo;
-
-const OPEN_OBJECT: u32 = 2_000_000_001;
-
-const CLOSE_OBJECT: u32 = 2_000_000_002;
-
-const OPEN_LIST: u32 = 2_000_000_003;
-
-const CLOSE_LIST: u32 = 2_000_000_004;
-
-const NULL: u32 = 2_000_000_005;
 
 // Writes one token, and says where the next goes.
 pub fn put(out: &mut [u32], at: usize, x: u32) -> usize
@@ -166,7 +162,7 @@ pub fn entry(
         }
         return at;
     }
-    let after = put(out, at, 1_000_000_000 + query::entry_cell(q, k, 3));
+    let after = put(out, at, LABELS + query::entry_cell(q, k, 3));
     let kind = world::shape(a, g, u, FieldNo(query::entry_cell(q, k, 4)));
     match kind {
         world::FieldKind::Scalar => {

@@ -6,6 +6,7 @@ use mathlib.Core.List.{List, [], _∷_, _++_}
 use mathlib.Core.Option.{Option, none, some}
 use lib.ListN.{drop}
 use Rattle.rules.specs.Lists.{those, keepIf}
+pub use Rattle.rules.specs.Lists.{Each}
 use Rattle.rules.specs.Search.{Test, _#_, testEach, Tests, worse, faultIf, faultOf, fault, Check, firstFrom, whole, orElse}
 use Rattle.rules.specs.declared.Spot.{Spot}
 use Rattle.rules.proofs.Bools.{some-none}
@@ -85,11 +86,6 @@ from-calm (g ∷ gs) c = rw (from-quiet (g .applies) (g .tests) (c .0)) (from-ca
 -- ---- the lines
 
 module _ {A : Type 0} where
-  -- a fact of each element
-  abbrev pub Each : (A → Type 0) → List A → Type 0
-  Each P [] = Unit {0}
-  Each P (r ∷ rs) = P r × Each P rs
-
   pub each-map : (P Q : A → Type 0) → ((x : A) → P x → Q x) → (xs : List A) → Each P xs → Each Q xs
   each-map P Q f [] e = tt
   each-map P Q f (x ∷ xs) e = (f x (e .0), each-map P Q f xs (e .1))

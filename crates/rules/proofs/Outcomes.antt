@@ -106,10 +106,10 @@ module _ (short : Bool) (x : Texts) (room : ℕ) (buffer : List ℕ) where
   pub answer-checks-rise : Rises 0 (answerChecks short x room)
   answer-checks-rise = rising 0 (answerChecks short x room) refl
 
-  passed-checks : Passed (answerChecks short x room) → Passed (checks short x)
+  pub passed-checks : Passed (answerChecks short x room) → Passed (checks short x)
   passed-checks p = passed-tail 0 _ (checks short x) answer-checks-rise p
 
-  room-small : Passed (answerChecks short x room) → room ≤ largestRoom
+  pub room-small : Passed (answerChecks short x room) → room ≤ largestRoom
   room-small p = ltb-false largestRoom room (whole-none (ltb largestRoom room) (p 1))
 
   -- the two ways in which texts that pass are answered

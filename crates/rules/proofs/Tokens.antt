@@ -28,7 +28,7 @@ pub data Token (t : ℕ) : Type 0 where
 
 -- ---- the values that lookups find are at most 999,999,999
 
-abbrev SmallFound : Found → Type 0
+abbrev pub SmallFound : Found → Type 0
 SmallFound nothing = Unit {0}
 SmallFound (one x) = x ≤ largest
 SmallFound (many xs) = Small xs
@@ -50,11 +50,11 @@ found-small (p ∷ ps) e = go (eqb (at p 2) 1) refl
 
 -- ---- 33: labels are at most 255
 
-abbrev Labelled : Asks → Type 0
+abbrev pub Labelled : Asks → Type 0
 Labelled (field n l) = n ≤ 255
 Labelled (on t) = Unit {0}
 
-abbrev LabelledTree : Forest → Type 0
+abbrev pub LabelledTree : Forest → Type 0
 LabelledTree noEntry = Unit {0}
 LabelledTree (node e kids rest) = Labelled (e .asks) × LabelledTree kids × LabelledTree rest
 
@@ -131,17 +131,22 @@ module _ (w : World) (small : (u : ℕ) (l : Label) → SmallFound ((w .lookup) 
       (shown-tokens (e .asks) u (λ v. eval w kids v) (h .0) (λ v. eval-tokens kids (h .1) v))
       (eval-tokens rest (h .2) u)
 
-pub response-tokens : (short : Bool) (x : Texts) → Passed (checks short x) → Each Token (response x)
-response-tokens short x p =
-    let s = schemaIn x in
+-- ---- of texts that pass
+
+pub lookups-small : (x : Texts) (u : ℕ) (l : Label) → SmallFound ((worldOf x .lookup) u l)
+lookups-small x u l =
     let g = graphRows x in
+    found-small (those (propertyOf u l) g) (each-those (λ r. Small (r .numbers)) (propertyOf u l) g (rows-small (x .graph)))
+
+pub tree-labelled : (short : Bool) (x : Texts) → Passed (checks short x) → LabelledTree (treeOf x)
+tree-labelled short x p =
+    let s = schemaIn x in
     let q = queryRows x in
     let labels = clean-each (check33 s) (λ r. Labelled (asksOf r)) (row-labelled s) [] q (clean (check33 s) [] 1 q (p 33)) in
-    eval-tokens (worldOf x)
-    (λ u l. found-small (those (propertyOf u l) g) (each-those (λ r. Small (r .numbers)) (propertyOf u l) g (rows-small (x .graph))))
-    (treeOf x)
-    (siblings-labelled (entriesFrom 0 q) 0 (entries-labelled 0 q labels))
-    (rootOf x)
+    siblings-labelled (entriesFrom 0 q) 0 (entries-labelled 0 q labels)
+
+pub response-tokens : (short : Bool) (x : Texts) → Passed (checks short x) → Each Token (response x)
+response-tokens short x p = eval-tokens (worldOf x) (lookups-small x) (treeOf x) (tree-labelled short x p) (rootOf x)
 
 -- ---- below 2^32
 

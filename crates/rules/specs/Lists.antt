@@ -24,6 +24,11 @@ module _ {A : Type 0} where
   all p [] = true
   all p (x ∷ xs) = p x && all p xs
 
+  -- a fact of each element
+  abbrev pub Each : (A → Type 0) → List A → Type 0
+  Each P [] = Unit {0}
+  Each P (x ∷ xs) = P x × Each P xs
+
   -- the sum of g over the elements
   abbrev pub sumOf : (A → ℕ) → List A → ℕ
   sumOf g [] = 0

@@ -3,8 +3,10 @@
 ghost use mathlib.Core.Path.{_≡_};
 ghost use Rattle.judge.specs.Texts.{texts, lent};
 ghost use Rattle.response.specs.Calls.{sizedIn, answeredIn, bufferIn};
+ghost use Rattle.shorten.specs.Judge.{Judged};
 ghost use Rattle.sodgravel.specs.Cleared.{cleared};
 use rules::Outcome;
+use rules::Reply;
 
 // `size`, under its C name.
 #[no_mangle]
@@ -59,4 +61,12 @@ pub extern "C" fn sodgravel_answer(
     ensures { λ _. ⌜ now (m .exit) ≡ cleared (now (m .entry)) ⌝ }
 {
     crate::answer(schema, graph, query, a, g, p, v, ix, q, m, room, out)
+}
+
+// `shorten::judge`, under its C name.
+#[no_mangle]
+pub extern "C" fn sodgravel_judge(full: &[u32], shortened: &[u32]) -> Reply
+    ensures { λ r. ⌜ Judged (now (full .entry)) (now (shortened .entry)) r ⌝ }
+{
+    shorten::judge(full, shortened)
 }

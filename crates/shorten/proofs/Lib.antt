@@ -1,0 +1,14 @@
+pub mod Sides
+pub mod Way
+pub mod StruckOut
+pub mod Shorter
+pub mod Closure
+pub mod Left
+pub mod Plain
+pub mod Nested
+pub mod Passes
+pub mod Walks
+pub mod Verdicts
+pub mod Promised
+pub mod Own
+pub mod Samples

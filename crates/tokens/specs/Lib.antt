@@ -1,0 +1,2 @@
+pub mod Response
+pub mod Check

@@ -182,7 +182,7 @@ module _ (l : ℕ) (c : Content) (r : Response) (d : ℕ) (wl : l ≤ largestLab
 
 -- ---- a content whose first token is another
 
-pub head : Content → ℕ
+unfoldable pub head : Content → ℕ
 head (value v) = v
 head null = nullToken
 head (values vs) = openList

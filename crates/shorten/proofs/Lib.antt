@@ -7,6 +7,7 @@ pub mod Left
 pub mod Plain
 pub mod Nested
 pub mod Passes
+pub mod Turns
 pub mod Walks
 pub mod Verdicts
 pub mod Promised

@@ -111,6 +111,10 @@ push-row : (f s : List ℕ) (st : List (List ℕ)) → length st < mostBrackets
     → pass (openObject ∷ f) (way 0 (openObject ∷ s) st) ≡ pass f (way 0 s ((openObject ∷ s) ∷ st))
 push-row f s st b = step openObject f 0 (openObject ∷ s) st Opener true side-open refl ∙ rw (lt-ltb (length st) mostBrackets b)
 
+-- objects of a list, up to its end, and what follows it
+abbrev rowsOf : Response → Objects → List ℕ → List ℕ
+rowsOf y ps x = listed (one y ps) ++ closeList ∷ x
+
 module _ (r : Response) (os : Objects) (d : ℕ) (hd : 0 < d) (w : Within r (d - 1)) (p : Passes r (d - 1)) (g : Gathers os d) where
   gather-one : Gathers (one r os) d
   unfolding tokens Shorter Within
@@ -128,13 +132,9 @@ module _ (r : Response) (os : Objects) (d : ℕ) (hd : 0 < d) (w : Within r (d -
       i : Left r y (d - 1) (e - 1)
       i = p y (e - 1) (v .1)
 
-      rows : List ℕ → List ℕ
-      rows x = listed (one y ps) ++ closeList ∷ x
-
       inside : (x f : List ℕ) (st : List (List ℕ)) → length st + 2 * d ≤ mostBrackets
-          → pass (listed (one r os) ++ f) (way 0 (rows x) st)
-          ≡ pass (closeObject ∷ (listed os ++ f)) (way 0 (tokens (i .remains) ++ closeObject ∷ (listed ps ++ closeList ∷ x)) (rows x ∷ st))
-      unfolding rows
+          → pass (listed (one r os) ++ f) (way 0 (rowsOf y ps x) st)
+          ≡ pass (closeObject ∷ (listed os ++ f)) (way 0 (tokens (i .remains) ++ closeObject ∷ (listed ps ++ closeList ∷ x)) (rowsOf y ps x ∷ st))
       inside x f st b =
           let rest = listed ps ++ closeList ∷ x in
           let here = (tokens y ++ closeObject ∷ listed ps) ++ closeList ∷ x in
@@ -145,7 +145,6 @@ module _ (r : Response) (os : Objects) (d : ℕ) (hd : 0 < d) (w : Within r (d -
           ∙ i .runs (closeObject ∷ rest) (stops-close rest) (closeObject ∷ (listed os ++ f)) ((openObject ∷ here) ∷ st) (omega arith)
 
       go : (k : Response) → i .remains ≡ k → LeftObjects (one r os) (one y ps) d e
-      unfolding rows
       go done q =
           let a = i .sound q in
           let j = g ps e (v .2) in
@@ -153,7 +152,7 @@ module _ (r : Response) (os : Objects) (d : ℕ) (hd : 0 < d) (w : Within r (d -
             remains = j .remains;
             within = j .within;
             runs = λ x f st b.
-                inside x f st b ∙ rw q (ends-object (listed os ++ f) (listed ps ++ closeList ∷ x) (rows x) st) ∙ j .runs x f st b;
+                inside x f st b ∙ rw q (ends-object (listed os ++ f) (listed ps ++ closeList ∷ x) (rowsOf y ps x) st) ∙ j .runs x f st b;
             complete = ⊎-elim
                 (λ m. j .complete (tail-objects os y ps m))
                 (λ m. j .complete (subst (λ (z : Objects). Among os z) (let z : m .rest ≡ ps = cc (m .is) in z) (m .then)));
@@ -172,7 +171,7 @@ module _ (r : Response) (os : Objects) (d : ℕ) (hd : 0 < d) (w : Within r (d -
             within = j .within;
             runs = λ z f st b.
                 inside z f st b
-                ∙ rw q (fails-object (listed os ++ f) ((contents x ++ tokens t) ++ closeObject ∷ (listed ps ++ closeList ∷ z)) (rows z) st k (u .0))
+                ∙ rw q (fails-object (listed os ++ f) ((contents x ++ tokens t) ++ closeObject ∷ (listed ps ++ closeList ∷ z)) (rowsOf y ps z) st k (u .0))
                 ∙ j .runs z f st b;
             complete = ⊎-elim (j .complete) (λ m.
                 let c : i .remains ≡ done =

@@ -57,13 +57,13 @@ innermost s saved j (suc n) (t ∷ st) h e w =
     }
 
 -- as the code reads it
-pub saved-for : (saved : List ℕ) (n j : ℕ) → (n ≡ 0 → ⊥) → getD saved (n - 1) 0 ≡ savedFor saved n j
-saved-for saved zero j h = absurd (h refl)
-saved-for saved (suc n) j h = ap (λ (x : ℕ). getD saved x 0) (let e : suc n - 1 ≡ n = omega arith in e)
+pub saved-for : (saved : List ℕ) (n j back : ℕ) → (n ≡ 0 → ⊥) → back ≡ getD saved (n - 1) 0 → back ≡ savedFor saved n j
+saved-for saved zero j back h e = absurd (h refl)
+saved-for saved (suc n) j back h e = e ∙ ap (λ (x : ℕ). getD saved x 0) (let less : suc n - 1 ≡ n = omega arith in less)
 
-pub none-saved : (saved : List ℕ) (n j : ℕ) → n ≡ 0 → j ≡ savedFor saved n j
-none-saved saved zero j h = refl
-none-saved saved (suc n) j h = absurd (omega arith)
+pub none-saved : (saved : List ℕ) (n j back : ℕ) → n ≡ 0 → back ≡ j → back ≡ savedFor saved n j
+none-saved saved zero j back h e = e
+none-saved saved (suc n) j back h e = absurd (omega arith)
 
 -- ---- one turn
 
@@ -77,84 +77,83 @@ record Shows (s saved : List ℕ) (w : Stand) (v : Way) : Type 0 where
   held : Holds s saved (v .saved)
 
 module _
-  (s saved : List ℕ)
-  (j n : ℕ)
-  (st : List (List ℕ))
-  (size : length saved ≡ suc mostBrackets)
-  (inside : j ≤ length s)
-  (depth : n ≡ length st)
-  (room : n ≤ mostBrackets)
-  (held : Holds s saved st)
+    (s saved : List ℕ)
+    (j n : ℕ)
+    (st : List (List ℕ))
+    (size : length saved ≡ suc mostBrackets)
+    (inside : j ≤ length s)
+    (depth : n ≡ length st)
+    (room : n ≤ mostBrackets)
+    (held : Holds s saved st)
   where
+    last : Innermost s saved j n st
+    last = innermost s saved j n st inside depth held
 
-  last : Innermost s saved j n st
-  last = innermost s saved j n st inside depth held
+    -- at another place, with no bracket more
+    shown : (m′ j′ n′ : ℕ) (t : List ℕ) (st′ : List (List ℕ)) → j′ ≤ length s → drop j′ s ≡ t → n′ ≡ length st′ → n′ ≤ n → Holds s saved st′
+        → Shows s (set saved n j) (stand m′ j′ n′) (way m′ t st′)
+    shown m′ j′ n′ t st′ i l d r h = record {
+      mode = refl;
+      left = l;
+      inside = i;
+      depth = d;
+      room = omega arith;
+      held = holds-set s saved st′ n j (omega arith) h;
+    }
 
-  -- at another place, with no bracket more
-  shown : (m′ j′ n′ : ℕ) (t : List ℕ) (st′ : List (List ℕ)) → j′ ≤ length s → drop j′ s ≡ t → n′ ≡ length st′ → n′ ≤ n → Holds s saved st′
-      → Shows s (set saved n j) (stand m′ j′ n′) (way m′ t st′)
-  shown m′ j′ n′ t st′ i l d r h = record {
-    mode = refl;
-    left = l;
-    inside = i;
-    depth = d;
-    room = omega arith;
-    held = holds-set s saved st′ n j (omega arith) h;
-  }
+    past : (m : ℕ) → drop (j + m + 1) s ≡ drop (suc m) (drop j s)
+    past m = let e : j + suc m ≡ j + m + 1 = omega arith in ap (λ (k : ℕ). drop k s) (sym e) ∙ sym (drop-drop (suc m) j s)
 
-  past : (m : ℕ) → drop (j + m + 1) s ≡ drop (suc m) (drop j s)
-  past m = let e : j + suc m ≡ j + m + 1 = omega arith in ap (λ (k : ℕ). drop k s) (sym e) ∙ sym (drop-drop (suc m) j s)
+    -- a bracket more that stands in both
+    pushed : (m : ℕ) → j + m < length s → n < mostBrackets
+        → Shows s (set saved n j) (stand 0 (j + m + 1) (n + 1)) (way 0 (drop (suc m) (drop j s)) (drop j s ∷ st))
+    pushed m h r =
+        let here : getD (set saved n j) (length st) 0 ≡ j =
+        ap (λ (k : ℕ). getD (set saved n j) k 0) (sym depth) ∙ getD-set-same saved n j 0 (omega arith) in
+        record {
+          mode = refl;
+          left = past m;
+          inside = omega arith;
+          depth = omega arith;
+          room = omega arith;
+          held = (
+            subst (λ (k : ℕ). k ≤ length s) (sym here) inside,
+            ap (λ (k : ℕ). drop k s) here,
+            holds-set s saved st n j (omega arith) held,
+          );
+        }
 
-  -- a bracket more that stands in both
-  pushed : (m : ℕ) → j + m < length s → n < mostBrackets
-      → Shows s (set saved n j) (stand 0 (j + m + 1) (n + 1)) (way 0 (drop (suc m) (drop j s)) (drop j s ∷ st))
-  pushed m h r =
-      let here : getD (set saved n j) (length st) 0 ≡ j =
-      ap (λ (k : ℕ). getD (set saved n j) k 0) (sym depth) ∙ getD-set-same saved n j 0 (omega arith) in
-      record {
-        mode = refl;
-        left = past m;
-        inside = omega arith;
-        depth = omega arith;
-        room = omega arith;
-        held = (
-          subst (λ (k : ℕ). k ≤ length s) (sym here) inside,
-          ap (λ (k : ℕ). drop k s) here,
-          holds-set s saved st n j (omega arith) held,
-        );
-      }
+    opens : (m : ℕ) → j + m < length s
+        → Shows s (set saved n j) (onSide Opener true m j n (savedFor saved n j)) (live Opener true m (drop j s) st)
+    opens m h = go (decLt n mostBrackets)
+      where
+        go : Dec (n < mostBrackets) → Shows s (set saved n j) (onSide Opener true m j n (savedFor saved n j)) (live Opener true m (drop j s) st)
+        go (yes p) = rw (lt-ltb n mostBrackets p, lt-ltb (length st) mostBrackets (omega arith)) (pushed m h p)
+        go (no p) =
+            rw (le-ltb n mostBrackets (omega arith), le-ltb (length st) mostBrackets (omega arith))
+            (shown 3 j n (drop j s) st inside refl depth (omega arith) held)
 
-  opens : (m : ℕ) → j + m < length s
-      → Shows s (set saved n j) (onSide Opener true m j n (savedFor saved n j)) (live Opener true m (drop j s) st)
-  opens m h = go (decLt n mostBrackets)
-    where
-      go : Dec (n < mostBrackets) → Shows s (set saved n j) (onSide Opener true m j n (savedFor saved n j)) (live Opener true m (drop j s) st)
-      go (yes p) = rw (lt-ltb n mostBrackets p, lt-ltb (length st) mostBrackets (omega arith)) (pushed m h p)
-      go (no p) =
-          rw (le-ltb n mostBrackets (omega arith), le-ltb (length st) mostBrackets (omega arith))
-          (shown 3 j n (drop j s) st inside refl depth (omega arith) held)
+    lives : (d : Side) (b : Bool) (m : ℕ) → (b ≡ true → j + m < length s)
+        → Shows s (set saved n j) (onSide d b m j n (savedFor saved n j)) (live d b m (drop j s) st)
+    lives Plain true m h = let i = h refl in shown 0 (j + m + 1) n _ st (omega arith) (past m) depth (omega arith) held
+    lives Plain false zero h = shown 0 (savedFor saved n j) n _ st (last .inside) (last .rest) depth (omega arith) held
+    lives Plain false (suc m) h = shown 0 j n _ st inside refl depth (omega arith) held
+    lives Named true m h = shown 1 j n _ st inside refl depth (omega arith) held
+    lives Named false m h = shown 2 j n _ st inside refl depth (omega arith) held
+    lives Opener true m h = opens m (h refl)
+    lives Opener false m h = shown 3 j n _ st inside refl depth (omega arith) held
+    lives Closer true m h =
+        let i = h refl in shown 0 (j + m + 1) (n - 1) _ (outer st) (omega arith) (past m) (last .depth) (omega arith) (last .held)
+    lives Closer false m h =
+        shown 0 (savedFor saved n j) (n - 1) _ (outer st) (last .inside) (last .rest) (last .depth) (omega arith) (last .held)
 
-  lives : (d : Side) (b : Bool) (m : ℕ) → (b ≡ true → j + m < length s)
-      → Shows s (set saved n j) (onSide d b m j n (savedFor saved n j)) (live d b m (drop j s) st)
-  lives Plain true m h = let i = h refl in shown 0 (j + m + 1) n _ st (omega arith) (past m) depth (omega arith) held
-  lives Plain false zero h = shown 0 (savedFor saved n j) n _ st (last .inside) (last .rest) depth (omega arith) held
-  lives Plain false (suc m) h = shown 0 j n _ st inside refl depth (omega arith) held
-  lives Named true m h = shown 1 j n _ st inside refl depth (omega arith) held
-  lives Named false m h = shown 2 j n _ st inside refl depth (omega arith) held
-  lives Opener true m h = opens m (h refl)
-  lives Opener false m h = shown 3 j n _ st inside refl depth (omega arith) held
-  lives Closer true m h =
-      let i = h refl in shown 0 (j + m + 1) (n - 1) _ (outer st) (omega arith) (past m) (last .depth) (omega arith) (last .held)
-  lives Closer false m h =
-      shown 0 (savedFor saved n j) (n - 1) _ (outer st) (last .inside) (last .rest) (last .depth) (omega arith) (last .held)
-
-  turns : (d : Side) (b : Bool) (m : ℕ) → (b ≡ true → j + m < length s)
-      → Shows s (set saved n j) (turnOf d b (stand m j n) (savedFor saved n j)) (turned d b m (drop j s) st)
-  turns d b zero h = lives d b 0 h
-  turns d b (suc zero) h = lives d b 1 h
-  turns d b (suc (suc k)) h =
-      let e : suc (suc k) - 2 ≡ k = omega arith in
-      rw (le-ltb (suc (suc k)) 2 (omega arith), e) (shown (strikeOf d k) j n _ st inside refl depth (omega arith) held)
+    turns : (d : Side) (b : Bool) (m : ℕ) → (b ≡ true → j + m < length s)
+        → Shows s (set saved n j) (turnOf d b (stand m j n) (savedFor saved n j)) (turned d b m (drop j s) st)
+    turns d b zero h = lives d b 0 h
+    turns d b (suc zero) h = lives d b 1 h
+    turns d b (suc (suc k)) h =
+        let e : suc (suc k) - 2 ≡ k = omega arith in
+        rw (le-ltb (suc (suc k)) 2 (omega arith), e) (shown (strikeOf d k) j n _ st inside refl depth (omega arith) held)
 
 -- ---- modes stay low
 
@@ -191,6 +190,8 @@ turned-low d b (suc (suc k)) i s st h = omega (arith, strike-low d k)
 -- ---- the loop
 
 pub record At (f s saved : List ℕ) (w : Stand) (i : ℕ) : Type 0 where
+  pub first : IsResponse f
+  pub second : IsResponse s
   pub st : List (List ℕ)
   pub size : length saved ≡ suc mostBrackets
   pub seen : i ≤ length f
@@ -201,8 +202,11 @@ pub record At (f s saved : List ℕ) (w : Stand) (i : ℕ) : Type 0 where
   pub shallow : w .mode ≤ i + 2
   pub same : pass (drop i f) (way (w .mode) (drop (w .place) s) st) ≡ pass f (way 0 s [])
 
-pub begins : (f s saved : List ℕ) → length saved ≡ suc mostBrackets → At f s saved (stand 0 0 0) 0
-begins f s saved h = record {
+pub begins : (f s saved : List ℕ) (w : Stand) → IsResponse f → IsResponse s → length saved ≡ suc mostBrackets → w ≡ stand 0 0 0
+    → At f s saved w 0
+begins f s saved w a b h e = subst (λ (x : Stand). At f s saved x 0) (sym e) (record {
+  first = a;
+  second = b;
   st = [];
   size = h;
   seen = omega arith;
@@ -212,7 +216,7 @@ begins f s saved h = record {
   held = tt;
   shallow = omega arith;
   same = refl;
-}
+})
 
 hits-inside : (x o : ℕ) (s : List ℕ) → hits x (drop o s) ≡ true → o < length s
 hits-inside x o s h = go (decLt o (length s))
@@ -230,45 +234,48 @@ module _ {f s saved : List ℕ} {w : Stand} {i : ℕ} (at : At f s saved w i) wh
       rw (e, k, ← drop-drop (w .mode) (w .place) s)
       (ap (λ (z : List ℕ). pass z (way (w .mode) (drop (w .place) s) (at .st))) (sym (drop-more f i h)) ∙ at .same)
 
-  pub next : i < length f → (d : Side) (b : Bool) (back : ℕ) (w′ : Stand) → d ≡ sideOf (getD f i 0)
-      → b ≡ hits (getD f i 0) (drop (w .place + w .mode) s)
-      → back ≡ savedFor saved (w .depth) (w .place)
-      → w′ ≡ turnOf d b w back
-      → At f s (set saved (w .depth) (w .place)) w′ (i + 1)
-  next h d b back w′ e k u q = subst (λ (x : Stand). At f s (set saved (w .depth) (w .place)) x (i + 1)) (sym (q ∙ ap (turnOf d b w) u)) there
-    where
-      v : Way
-      v = turned d b (w .mode) (drop (w .place) s) (at .st)
-
-      to : Stand
-      to = turnOf d b w (savedFor saved (w .depth) (w .place))
-
-      t : Shows s (set saved (w .depth) (w .place)) to v
-      unfolding v to
-      t =
-          turns s saved (w .place) (w .depth) (at .st) (at .size) (at .inside) (at .depth) (at .room) (at .held) d b (w .mode)
-          (λ p. hits-inside (getD f i 0) (w .place + w .mode) s (sym k ∙ p))
-
-      low : to .mode ≤ i + 1 + 2
-      unfolding v
-      low = subst (λ (m : ℕ). m ≤ i + 1 + 2) (sym (t .mode)) (turned-low d b (w .mode) i (drop (w .place) s) (at .st) (at .shallow))
-
-      stands : way (to .mode) (drop (to .place) s) (v .saved) ≡ v
-      stands = rw (t .mode, t .left)
-
-      there : At f s (set saved (w .depth) (w .place)) to (i + 1)
-      unfolding v
-      there = record {
+  reached : i < length f → (saved′ : List ℕ) (w′ : Stand) (v : Way) → length saved′ ≡ suc mostBrackets → Shows s saved′ w′ v
+      → v .mode ≤ i + 1 + 2
+      → pass (drop (i + 1) f) v ≡ pass f (way 0 s [])
+      → At f s saved′ w′ (i + 1)
+  reached h saved′ w′ v z t low e =
+      let stands : way (w′ .mode) (drop (w′ .place) s) (v .saved) ≡ v = rw (t .mode, t .left) in
+      record {
+        first = at .first;
+        second = at .second;
         st = v .saved;
-        size = length-set saved (w .depth) (w .place) ∙ at .size;
+        size = z;
         seen = omega arith;
         inside = t .inside;
         depth = t .depth;
         room = t .room;
         held = t .held;
-        shallow = low;
-        same = ap (pass (drop (i + 1) f)) stands ∙ pass-more h d b e k;
+        shallow = subst (λ (m : ℕ). m ≤ i + 1 + 2) (sym (t .mode)) low;
+        same = ap (pass (drop (i + 1) f)) stands ∙ e;
       }
+
+  pub next : i < length f → (d : Side) (b : Bool) (back : ℕ) (w′ : Stand) → d ≡ sideOf (getD f i 0)
+      → b ≡ hits (getD f i 0) (drop (w .place + w .mode) s)
+      → back ≡ savedFor saved (w .depth) (w .place)
+      → w′ ≡ turnOf d b w back
+      → At f s (set saved (w .depth) (w .place)) w′ (i + 1)
+  next h d b back w′ e k u q =
+      let there =
+      reached h (set saved (w .depth) (w .place)) (turnOf d b w (savedFor saved (w .depth) (w .place)))
+      (turned d b (w .mode) (drop (w .place) s) (at .st))
+      (length-set saved (w .depth) (w .place) ∙ at .size)
+      (turns s saved (w .place) (w .depth) (at .st) (at .size) (at .inside) (at .depth) (at .room) (at .held) d b (w .mode)
+      (λ p. hits-inside (getD f i 0) (w .place + w .mode) s (sym k ∙ p)))
+      (turned-low d b (w .mode) i (drop (w .place) s) (at .st) (at .shallow))
+      (pass-more h d b e k) in
+      subst (λ (x : Stand). At f s (set saved (w .depth) (w .place)) x (i + 1)) (sym (q ∙ ap (turnOf d b w) u)) there
+
+  -- what a turn asks
+  pub turn-asks : (w .mode - 2 ≤ mostTokens) × (w .place ≤ mostTokens)
+  turn-asks =
+      let few : length f ≤ mostTokens = at .first .1 .few in
+      let few-short : length s ≤ mostTokens = at .second .1 .few in
+      (omega (arith, at .shallow, at .seen), omega (arith, at .inside))
 
   -- at the end
   over : length f ≤ i → drop (w .place) s ≡ pass f (way 0 s [])
@@ -291,5 +298,8 @@ module _ {f s saved : List ℕ} {w : Stand} {i : ℕ} (at : At f s saved w i) (h
       go (no n) true p = absurd (n (drop-nil s (w .place) (at .inside) (ap isEmpty (over at h) ∙ p)))
       go (no n) false p = ne-eqb (w .place) (length s) n ∙ sym p
 
-  pub decides : (r : Bool) → IsResponse f → IsResponse s → r ≡ eqb (w .place) (length s) → (r ≡ true) ↔ Shortened f s
-  decides r a b e = (λ t. passes-exactly a b .0 (sym (e ∙ ends) ∙ t), λ m. e ∙ ends ∙ passes-exactly a b .1 m)
+  pub decides : (eqb (w .place) (length s) ≡ true) ↔ Shortened f s
+  decides = (
+    λ t. passes-exactly (at .first) (at .second) .0 (sym ends ∙ t),
+    λ m. ends ∙ passes-exactly (at .first) (at .second) .1 m,
+  )

@@ -198,12 +198,13 @@ fn made_from(full: &[u32], shortened: &[u32]) -> bool
         i += 1;
         let d = side_of(x);
         let hit = stands_at(shortened, w.place + w.mode, x);
-        let back = if w.depth == 0 {
+        let depth = w.depth;
+        let back = if depth == 0 {
             w.place
         } else {
-            saved[w.depth - 1]
+            saved[depth - 1]
         };
-        saved[w.depth] = w.place;
+        saved[depth] = w.place;
         w = turn(d, hit, w, back);
     }
     w.place == shortened.len()

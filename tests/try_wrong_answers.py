@@ -143,7 +143,7 @@ def edits_of(crate):
 
 def place(edit, source):
     """Finds the functions that an edit changes (none where it changes something else), and those whose answer it is."""
-    names = ["" if CONTRACT.search(old) else source.function_of(file, old) for file, old, _ in edit.pairs]
+    names = ["" if CONTRACT.search(old + new) else source.function_of(file, old) for file, old, new in edit.pairs]
     edit.places = sorted(set(names)) if all(names) else []
     first = edit.name.split(".")[0]
     if first in source.bodies:

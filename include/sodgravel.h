@@ -1,12 +1,16 @@
 /*
- * Sodgravel for C and C++: sizes and answers queries over one equipment graph.
+ * Sodgravel for C and C++: sizes and answers queries over one equipment graph, and judges shortened responses.
  *
  * `rt staticlib sodgravel` proves the library and writes target/staticlib/libsodgravel.a, for x86-64 Linux. Link that archive
- * and nothing else. There are two calls. sodgravel_size tells how long the response to a query is; sodgravel_answer writes it.
+ * and nothing else. There are three calls. sodgravel_size tells how long the response to a query is; sodgravel_answer writes it;
+ * sodgravel_judge says whether one response is another one shortened.
  *
  * What is promised, and proved for every input (the contracts in crates/sodgravel/src/exports.rt):
  *
  *   - Every call returns. It accepts with number 0, or refuses with one of the numbers below, at the place that the rules fix.
+ *     Judging says yes or no with number 0.
+ *   - Judging says yes exactly when the second sequence can be made from the first by striking out whole fields or whole objects
+ *     of a list, any number of times. It is lent no work area, and writes nothing.
  *   - An accepted answer changes the first `size` numbers of the response buffer, and no others.
  *   - A refused call changes nothing in the response buffer.
  *   - After every call, accepted or refused, every work area holds zeros only, over the whole length given. What it held before
@@ -19,11 +23,12 @@
  *
  *   - A pointer points to as many elements as the length given with it says, and is aligned for their type. Where the length is 0
  *     the pointer may be null. Lengths count elements and not bytes.
- *   - No work area and no response buffer overlaps another or a text. The three texts are only read, and may overlap.
+ *   - No work area and no response buffer overlaps another or a text. The three texts are only read, and may overlap. So are the
+ *     two sequences that are judged: they may overlap, or be one.
  *   - No other thread writes to what is lent while the call runs, and none reads the areas or the response buffer.
  *
  * No proof holds this header to the library. tests/run_c.sh does: it makes a call for each number but 40, and tries the needed
- * lengths, the largest text and the largest room from both sides.
+ * lengths, the largest text, the largest room, the most tokens and the most open objects from both sides.
  */
 #ifndef SODGRAVEL_H
 #define SODGRAVEL_H
@@ -69,7 +74,10 @@ enum sodgravel_number {
     SODGRAVEL_QUERY_NOT_VALID = 34,     /* not valid by Definition 4 */
 
     SODGRAVEL_TWO_TARGETS = 40,         /* a field that is no list meets two targets; place 0. Never given: 25 and 26 come first */
-    SODGRAVEL_SIZE_ABOVE_ROOM = 50      /* answering only: the size exceeds the room; place 0; size and visits are given */
+    SODGRAVEL_SIZE_ABOVE_ROOM = 50,     /* answering only: the size exceeds the room; place 0; size and visits are given */
+
+    SODGRAVEL_FULL_NO_RESPONSE = 71,     /* judging only: the first sequence is no response or passes a maximum; place 0 */
+    SODGRAVEL_SHORTENED_NO_RESPONSE = 72 /* judging only: the second sequence is no response or passes a maximum; place 0 */
 };
 
 /* The needed length of each work area, in elements. A longer one will do. */
@@ -88,12 +96,17 @@ enum sodgravel_maximum {
     SODGRAVEL_MAXIMUM_TEXT = 65535,   /* bytes of a text; a longer one is refused with 10, 20 or 30, place 0 */
     SODGRAVEL_MAXIMUM_ROOM = 16384,   /* numbers of a response; a larger room is refused with 1 */
     SODGRAVEL_MAXIMUM_SIZE = 1000000, /* sizes are exact up to this one */
-    SODGRAVEL_SIZE_BEYOND = 1000001   /* the size shown for all that are larger */
+    SODGRAVEL_SIZE_BEYOND = 1000001,  /* the size shown for all that are larger */
+    SODGRAVEL_MAXIMUM_TOKENS = 16384, /* tokens of a sequence that is judged; a longer one is refused with 71 or 72 */
+    SODGRAVEL_MAXIMUM_OPEN = 16       /* `{` open at once in a sequence that is judged; one with more is refused with 71 or 72 */
 };
 
 /*
- * The tokens of a response. A token below SODGRAVEL_LABELS is a value. A token from there on, below SODGRAVEL_OPEN_OBJECT, is the
- * label token - SODGRAVEL_LABELS (0 to 255), which stands for name and colon.
+ * The tokens of a response. A token below SODGRAVEL_LABELS is a value. A token from there on, up to SODGRAVEL_LABELS + 255, is the
+ * label token - SODGRAVEL_LABELS (0 to 255), which stands for name and colon. Nothing else but the five below is a token.
+ *
+ * A response is a sequence of fields, which may be empty. A field is a label and its content: a value, null, `[` values `]`,
+ * `{` fields `}`, or `[` objects `]` where each object is `{` fields `}`.
  */
 enum sodgravel_token {
     SODGRAVEL_LABELS = 1000000000,
@@ -104,13 +117,19 @@ enum sodgravel_token {
     SODGRAVEL_NULL = 2000000005
 };
 
-/* What a call returns. */
+/* What sizing and answering return. */
 typedef struct sodgravel_outcome {
     uint32_t number; /* 0, or the number of the refusal (enum sodgravel_number) */
     uint32_t place;  /* the line that offends, or 0 */
     uint32_t size;   /* the length of the response, 1,000,001 where it is above 1,000,000; 0 in a refusal other than 50 */
     uint32_t visits; /* the pairs of entry and node that the response meets; 0 in a refusal other than 50 */
 } sodgravel_outcome;
+
+/* What a call returns that says yes or no. */
+typedef struct sodgravel_reply {
+    uint32_t yes;              /* 1 for yes; 0 for no, and in a refusal */
+    sodgravel_outcome outcome; /* number 0 for yes and for no; the size is always 0 */
+} sodgravel_reply;
 
 /* Sizes a query: checks the three texts, and returns the size of the response and the visits. Never returns 1 or 50. */
 sodgravel_outcome sodgravel_size(
@@ -142,6 +161,16 @@ sodgravel_outcome sodgravel_answer(
     uint64_t *rows_area, size_t rows_area_length,
     uint32_t room,
     uint32_t *response, size_t response_length);
+
+/*
+ * Judges a shortened response: whether `shortened` can be made from `full` by striking out whole fields or whole objects of a
+ * list, any number of times. Order is kept; values, null and lists of values are never altered; an object or a list that is
+ * emptied stays as empty brackets. One label may stand several times in an object. The number is 0, 71 or 72; place, size and
+ * visits are 0.
+ */
+sodgravel_reply sodgravel_judge(
+    const uint32_t *full, size_t full_length,
+    const uint32_t *shortened, size_t shortened_length);
 
 #ifdef __cplusplus
 }

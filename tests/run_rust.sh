@@ -5,9 +5,9 @@
 #
 # Proves and builds the archive where it is missing or older than a source, builds the workspace in rust/ offline, and runs: the
 # unit tests and the vectors of the independent implementation, the test of the declarations against include/sodgravel.h, the
-# example on the sample of 01 and on every folder of tests/vectors, the README's ten lines, the differential test with its default
-# of 20,000 cases, and 300 further cases of it under valgrind. SODGRAVEL_ARCHIVE and SODGRAVEL_HEADER name another archive and
-# another header.
+# example on the sample of 01 and on every folder of tests/vectors, the README's ten lines, the differential test with its defaults
+# of 20,000 cases and DEFAULT_PAIRS pairs to judge, and 300 further cases and pairs of it under valgrind. SODGRAVEL_ARCHIVE and
+# SODGRAVEL_HEADER name another archive and another header.
 set -euo pipefail
 cd "$(dirname "$0")/.."
 name=run_rust
@@ -48,9 +48,14 @@ quiet rustc --edition 2021 -D warnings --extern sodgravel=rust/target/release/li
 printf 'ok\t2\t1\nL\t0\nV\t7\n' | cmp - "$work/out" || fail "the README's ten lines print something else than they say"
 say "the README's ten lines are answered as they say"
 
+# What the differential test said: how many cases, what the pairs were judged to be, and how it ended.
+counts() {
+    echo "$(head -1 "$work/said"); $(grep ' pairs: ' "$work/said"); $(tail -1 "$work/said")"
+}
+
 differential=rust/target/release/differential
 quiet "$differential"
-say "differential test: $(head -1 "$work/said"); $(tail -1 "$work/said")"
+say "differential test: $(counts)"
 
-quiet valgrind --error-exitcode=1 --leak-check=full --quiet "$differential" --cases 300 --seed 3
-say "differential test under valgrind: $(head -1 "$work/said"); $(tail -1 "$work/said")"
+quiet valgrind --error-exitcode=1 --leak-check=full --quiet "$differential" --cases 300 --pairs 300 --seed 3
+say "differential test under valgrind: $(counts)"

@@ -1,6 +1,7 @@
 //! The rules of 01, written from 01 and its readings and from nothing else, so that the proved library can be held against
 //! them. Parsed structs and hash maps in place of work areas; Definition 6 by direct recursion; multiplicities as exact
-//! numbers of any size; every size and every list of visits computed in two ways that have to agree.
+//! numbers of any size; every size and every list of visits computed in two ways that have to agree. And the judging of shortened
+//! responses, from the request (xi) and its readings, in two ways too.
 
 mod big;
 mod evaluate;
@@ -8,11 +9,14 @@ mod graph;
 mod measure;
 mod outcome;
 mod query;
+mod response;
 mod schema;
+mod shorten;
 mod text;
 
 pub use big::Big;
 pub use outcome::{Outcome, Refusal};
+pub use shorten::{judge, Reply};
 
 use graph::Graph;
 use measure::Measure;
@@ -64,7 +68,7 @@ pub fn answer(
 
 /// `size`, with the care to take.
 pub fn size_with(care: Care, schema: &[u8], graph: &[u8], query: &[u8], area_lengths: [usize; 7]) -> Outcome {
-    let measured = judge(schema, graph, query, area_lengths).map(|accepted| accepted.measure(care));
+    let measured = check(schema, graph, query, area_lengths).map(|accepted| accepted.measure(care));
     match measured {
         Ok(measure) => Outcome::accepted(measure.shown_size(), measure.visits),
         Err(refusal) => Outcome::refused(refusal),
@@ -84,14 +88,14 @@ pub fn answer_with(
     if room > LARGEST_ROOM {
         return Outcome::refused(Refusal { number: 1, place: 0 });
     }
-    match judge(schema, graph, query, area_lengths) {
+    match check(schema, graph, query, area_lengths) {
         Ok(accepted) => accepted.respond(care, room, buffer),
         Err(refusal) => Outcome::refused(refusal),
     }
 }
 
 /// Checks 2 to 34, in ascending order.
-fn judge(schema: &[u8], graph: &[u8], query: &[u8], area_lengths: [usize; 7]) -> Result<Accepted, Refusal> {
+fn check(schema: &[u8], graph: &[u8], query: &[u8], area_lengths: [usize; 7]) -> Result<Accepted, Refusal> {
     let short = |(length, needed): (&usize, &usize)| length < needed;
     if area_lengths.iter().zip(&NEEDED_LENGTHS).any(short) {
         return Err(Refusal { number: 2, place: 0 });

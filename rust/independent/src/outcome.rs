@@ -1,4 +1,4 @@
-//! What a call returns.
+//! What sizing and answering return, and refusals.
 
 /// Number, place, size, visits, as 01 has them.
 #[derive(Clone, Copy, Debug, PartialEq, Eq)]

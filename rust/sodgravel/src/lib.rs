@@ -1,4 +1,4 @@
-//! A safe wrapper over the proved static library: two calls, typed outcomes, and the response as tokens.
+//! A safe wrapper over the proved static library: three calls, typed outcomes and replies, and the response as tokens.
 //!
 //! ```no_run
 //! use sodgravel::{tokens, Areas, Texts, LARGEST_ROOM};
@@ -13,17 +13,32 @@
 //! }
 //! ```
 //!
+//! Whether a response is another one shortened, `judge` says:
+//!
+//! ```no_run
+//! use sodgravel::judge;
+//! use sodgravel::numbers::{CLOSE_OBJECT, LABELS, OPEN_OBJECT};
+//!
+//! let full = [LABELS, OPEN_OBJECT, LABELS + 1, 5, CLOSE_OBJECT];
+//! let shortened = [LABELS, OPEN_OBJECT, CLOSE_OBJECT];
+//! assert!(judge(&full, &shortened).is_yes());
+//! ```
+//!
 //! The library promises, for any texts, areas, room and buffer: every call returns; a refused call changes nothing in the
-//! response buffer, and an accepted answer its first `size` numbers only; every area holds zeros afterwards. Nothing proves that
-//! the declarations here are those of the library: tests/declarations.rs holds them to include/sodgravel.h.
+//! response buffer, and an accepted answer its first `size` numbers only; every area holds zeros afterwards. And for any two
+//! sequences: `judge` says yes exactly when the second can be made from the first by striking out whole fields or whole objects
+//! of a list. Nothing proves that the declarations here are those of the library: tests/declarations.rs holds them to
+//! include/sodgravel.h.
 
 mod areas;
 mod outcome;
 pub mod raw;
+mod reply;
 mod token;
 
 pub use areas::{Areas, LentAreas, NEEDED_LENGTHS};
 pub use outcome::{Outcome, Refusal};
+pub use reply::Reply;
 pub use token::{numbers, tokens, Token, Tokens};
 
 /// The longest text, in bytes. A longer one is refused.
@@ -37,6 +52,12 @@ pub const LARGEST_SIZE: u32 = 1_000_000;
 
 /// The size shown for all that are larger.
 pub const SIZE_BEYOND: u32 = 1_000_001;
+
+/// The most tokens of a sequence that is judged. A longer one is refused.
+pub const MOST_TOKENS: usize = 16_384;
+
+/// The most `{` that are open at once in a sequence that is judged. One with more is refused.
+pub const MOST_OPEN: u32 = 16;
 
 /// The three texts of a call.
 #[derive(Clone, Copy, Debug)]
@@ -108,4 +129,11 @@ pub fn answer(texts: Texts, areas: LentAreas, room: u32, response: &mut [u32]) -
         )
     };
     Outcome::from(outcome)
+}
+
+/// Judges a shortened response: whether it can be made from the full one by striking out whole fields or whole objects of a list.
+pub fn judge(full: &[u32], shortened: &[u32]) -> Reply {
+    // SAFETY: each pointer comes with the length of its own slice. Both slices are only read, and may overlap.
+    let reply = unsafe { raw::sodgravel_judge(full.as_ptr(), full.len(), shortened.as_ptr(), shortened.len()) };
+    Reply::from(reply)
 }

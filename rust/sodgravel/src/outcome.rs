@@ -1,4 +1,4 @@
-//! What a call returns, typed.
+//! What sizing and answering return, typed, and the refusals of all calls.
 
 use std::fmt;
 
@@ -20,7 +20,7 @@ pub enum Outcome {
     },
 }
 
-/// The refusals, with the numbers of 01.
+/// The refusals, with their numbers: those of 01, and the two of judging.
 #[repr(u32)]
 #[derive(Clone, Copy, Debug, PartialEq, Eq, Hash, PartialOrd, Ord)]
 pub enum Refusal {
@@ -72,10 +72,14 @@ pub enum Refusal {
     TwoTargets = 40,
     /// The size exceeds the room; size and visits are given.
     SizeAboveRoom = 50,
+    /// In judging, the first sequence is no response, has more than 16,384 tokens, or more than 16 `{` open at once.
+    FullNoResponse = 71,
+    /// In judging, the same of the second sequence.
+    ShortenedNoResponse = 72,
 }
 
 impl Refusal {
-    pub const ALL: [Refusal; 24] = [
+    pub const ALL: [Refusal; 26] = [
         Refusal::RoomTooLarge,
         Refusal::AreaTooShort,
         Refusal::SchemaForm,
@@ -100,6 +104,8 @@ impl Refusal {
         Refusal::QueryNotValid,
         Refusal::TwoTargets,
         Refusal::SizeAboveRoom,
+        Refusal::FullNoResponse,
+        Refusal::ShortenedNoResponse,
     ];
 
     pub fn number(self) -> u32 {
@@ -147,7 +153,7 @@ impl Outcome {
 }
 
 impl From<RawOutcome> for Outcome {
-    /// Panics on a number that 01 does not have, or a place with number 0: the archive is then of another version.
+    /// Panics on a number that no refusal has, or a place with number 0: the archive is then of another version.
     fn from(raw: RawOutcome) -> Outcome {
         let RawOutcome { number, place, size, visits } = raw;
         if number == 0 {

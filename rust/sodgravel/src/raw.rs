@@ -1,6 +1,6 @@
 //! The library's functions as C has them. A slice is a pointer and a length, counted in its elements.
 
-/// What a call returns, by value.
+/// What sizing and answering return, by value.
 #[repr(C)]
 #[derive(Clone, Copy, Debug, PartialEq, Eq)]
 pub struct RawOutcome {
@@ -8,6 +8,14 @@ pub struct RawOutcome {
     pub place: u32,
     pub size: u32,
     pub visits: u32,
+}
+
+/// What a call returns that says yes or no, by value.
+#[repr(C)]
+#[derive(Clone, Copy, Debug, PartialEq, Eq)]
+pub struct RawReply {
+    pub yes: u32,
+    pub outcome: RawOutcome,
 }
 
 extern "C" {
@@ -59,4 +67,7 @@ extern "C" {
         response: *mut u32,
         response_length: usize,
     ) -> RawOutcome;
+
+    pub fn sodgravel_judge(full: *const u32, full_length: usize, shortened: *const u32, shortened_length: usize)
+        -> RawReply;
 }

@@ -2,6 +2,9 @@
 
 use std::fmt;
 
+/// The token of the last label, 255.
+const LAST_LABEL: u32 = numbers::LABELS + 255;
+
 /// The tokens' numbers.
 pub mod numbers {
     pub const LABELS: u32 = 1_000_000_000;
@@ -28,7 +31,7 @@ impl Token {
     pub fn from_number(number: u32) -> Option<Token> {
         Some(match number {
             0..numbers::LABELS => Token::Value(number),
-            numbers::LABELS..numbers::OPEN_OBJECT => Token::Label(number - numbers::LABELS),
+            numbers::LABELS..=LAST_LABEL => Token::Label(number - numbers::LABELS),
             numbers::OPEN_OBJECT => Token::OpenObject,
             numbers::CLOSE_OBJECT => Token::CloseObject,
             numbers::OPEN_LIST => Token::OpenList,

@@ -6,7 +6,7 @@
 # Proves and builds the archive where it is missing or older than a source, builds the workspace in rust/ offline, and runs: the
 # unit tests and the vectors of the independent implementation, the test of the declarations against include/sodgravel.h, the
 # example on the sample of 01 and on every folder of tests/vectors, the README's ten lines, the differential test with its defaults
-# of 20,000 cases and DEFAULT_PAIRS pairs to judge, and 300 further cases and pairs of it under valgrind. SODGRAVEL_ARCHIVE and
+# of 20,000 cases and 40,000 pairs to judge, and 300 further cases and pairs of it under valgrind. SODGRAVEL_ARCHIVE and
 # SODGRAVEL_HEADER name another archive and another header.
 set -euo pipefail
 cd "$(dirname "$0")/.."

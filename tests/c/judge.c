@@ -174,6 +174,10 @@ static void try_yes(void)
     says_yes("not the first with the label", twice, TOKENS(L(0), OBJECT, L(2), 6, OBJECT_END));
     says_yes("both with the label", twice,
         TOKENS(L(0), OBJECT, L(1), 5, OBJECT_END, L(0), OBJECT, L(2), 6, OBJECT_END));
+    says_yes("not the first list with the label",
+        TOKENS(L(0), LIST, OBJECT, L(1), 5, OBJECT_END, LIST_END,
+            L(0), LIST, OBJECT, L(1), 5, OBJECT_END, OBJECT, OBJECT_END, LIST_END),
+        TOKENS(L(0), LIST, OBJECT, L(1), 5, OBJECT_END, OBJECT, OBJECT_END, LIST_END));
 }
 
 static void try_no(void)
@@ -190,10 +194,13 @@ static void try_no(void)
     says_no("a list's object alone", sample, TOKENS(L(0), OBJECT, L(9), 17, OBJECT_END));
     says_no("a field of an inner object", sample, TOKENS(L(9), 17));
     says_no("null for a list", sample, TOKENS(L(0), NONE));
+    says_no("an empty object for a list", sample, TOKENS(L(0), OBJECT, OBJECT_END));
     says_no("null for an object", object, TOKENS(L(0), NONE));
     says_no("an empty list for an object", object, TOKENS(L(0), LIST, LIST_END));
     says_no("another value", object, TOKENS(L(0), OBJECT, L(1), 6, OBJECT_END));
+    says_no("a value that differs far up", object, TOKENS(L(0), OBJECT, L(1), 5 + (1 << 29), OBJECT_END));
     says_no("another label", object, TOKENS(L(1), OBJECT, L(1), 5, OBJECT_END));
+    says_no("a label that differs far up", object, TOKENS(L(128), OBJECT, L(1), 5, OBJECT_END));
     says_no("a field too many", object, TOKENS(L(0), OBJECT, L(1), 5, L(1), 5, OBJECT_END));
     says_no("another order", TOKENS(L(0), 5, L(1), 6), TOKENS(L(1), 6, L(0), 5));
     says_no("a list of values cut", values, TOKENS(L(0), LIST, 5, LIST_END));

@@ -55,8 +55,10 @@ fn some_place(random: &mut Random, fields: &Fields, wanted: impl Fn(&Field) -> b
     (!found.is_empty()).then(|| found.swap_remove(random.below(found.len())))
 }
 
+/// Another value, most often one that differs in one bit.
 fn other_value(random: &mut Random, value: u32) -> u32 {
-    let other = random.pick(&[0, 1, 2, value ^ 1, value + 1, LARGEST_VALUE]).min(LARGEST_VALUE);
+    let other_bit = value ^ 1 << random.below(30);
+    let other = random.pick(&[0, 1, value + 1, other_bit, other_bit, other_bit, LARGEST_VALUE]).min(LARGEST_VALUE);
     if other == value {
         (value + 1) % LARGEST_VALUE
     } else {
@@ -193,7 +195,8 @@ pub fn value_listed(random: &mut Random, fields: &mut Fields) -> bool {
 pub fn label_changed(random: &mut Random, fields: &mut Fields) -> bool {
     let Some(place) = some_place(random, fields, |_| true) else { return false };
     let field = &mut place.siblings(fields)[place.index];
-    field.label = random.pick(&[field.label ^ 1, (field.label + 1) % 256, (field.label + 255) % 256]);
+    let other_bit = field.label ^ 1 << random.below(8);
+    field.label = random.pick(&[other_bit, other_bit, (field.label + 1) % 256, (field.label + 255) % 256]);
     true
 }
 

@@ -30,6 +30,7 @@ mod response;
 mod schema;
 mod special;
 mod token_damage;
+mod twins;
 
 use std::panic::{catch_unwind, AssertUnwindSafe};
 use std::process::ExitCode;

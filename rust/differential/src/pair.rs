@@ -9,6 +9,7 @@ use crate::extremes;
 use crate::random::Random;
 use crate::response::{struck, tokens, Fields, Shape};
 use crate::token_damage::{self, Damage};
+use crate::twins;
 
 /// The full and the shortened.
 pub type Sequences = (Vec<u32>, Vec<u32>);
@@ -31,7 +32,7 @@ enum Way {
 }
 
 /// The kinds of pairs, and of each how often it comes up beside the others.
-const KINDS: [(&str, usize, Way); 32] = [
+const KINDS: [(&str, usize, Way); 33] = [
     ("nothing", 10, Way::Made(nothing)),
     ("equal", 10, Way::Made(equal)),
     ("a part", 20, Way::Made(part)),
@@ -64,6 +65,7 @@ const KINDS: [(&str, usize, Way); 32] = [
     ("garbage", 10, Way::Damaged(token_damage::garbage)),
     ("longest", 10, Way::Made(extremes::longest)),
     ("deepest", 40, Way::Made(extremes::deepest)),
+    ("twins", 50, Way::Made(twins::twins)),
 ];
 
 /// The names of all kinds.

@@ -140,17 +140,32 @@ impl Reader<'_> {
 
 /// The tokens of a tree.
 pub fn write(fields: &Fields) -> Vec<u32> {
-    fields.iter().flat_map(|field| [vec![1_000_000_000 + field.label], write_content(&field.content)].concat()).collect()
+    let mut numbers = Vec::new();
+    write_fields(fields, &mut numbers);
+    numbers
 }
 
-fn write_content(content: &Content) -> Vec<u32> {
-    let object = |fields: &Fields| [vec![2_000_000_001], write(fields), vec![2_000_000_002]].concat();
-    let list = |inside: Vec<u32>| [vec![2_000_000_003], inside, vec![2_000_000_004]].concat();
-    match content {
-        Content::Value(value) => vec![*value],
-        Content::Null => vec![2_000_000_005],
-        Content::Values(values) => list(values.clone()),
-        Content::Object(fields) => object(fields),
-        Content::Objects(objects) => list(objects.iter().flat_map(object).collect()),
+fn write_fields(fields: &Fields, to: &mut Vec<u32>) {
+    for Field { label, content } in fields {
+        to.push(1_000_000_000 + label);
+        match content {
+            Content::Value(value) => to.push(*value),
+            Content::Null => to.push(2_000_000_005),
+            Content::Values(values) => between(2_000_000_003, 2_000_000_004, to, |to| to.extend(values)),
+            Content::Object(fields) => write_object(fields, to),
+            Content::Objects(objects) => between(2_000_000_003, 2_000_000_004, to, |to| {
+                objects.iter().for_each(|fields| write_object(fields, to));
+            }),
+        }
     }
+}
+
+fn write_object(fields: &Fields, to: &mut Vec<u32>) {
+    between(2_000_000_001, 2_000_000_002, to, |to| write_fields(fields, to));
+}
+
+fn between(open: u32, close: u32, to: &mut Vec<u32>, inside: impl FnOnce(&mut Vec<u32>)) {
+    to.push(open);
+    inside(to);
+    to.push(close);
 }

@@ -7,7 +7,7 @@ use crate::outcome::{Outcome, Refusal};
 use crate::response::{read, write, Content, Field, Fields};
 
 /// All that can be made of a response is made where there are at most so many ways to choose what is kept.
-const MOST_WAYS: usize = 600;
+const MOST_WAYS: usize = 300;
 
 /// Yes or no, and the outcome: number 0, or a refusal.
 #[derive(Clone, Copy, Debug, PartialEq, Eq)]

@@ -15,7 +15,7 @@
 //!
 //! Whether a response is another one shortened, `judge` says:
 //!
-//! ```no_run
+//! ```
 //! use sodgravel::judge;
 //! use sodgravel::numbers::{CLOSE_OBJECT, LABELS, OPEN_OBJECT};
 //!

@@ -565,7 +565,7 @@ class Evaluation:
         return min(self.length(), LARGEST_SIZE + 1), len(visits)
 
 
-# ---- the two calls
+# ---- sizing and answering
 
 
 def size(schema, graph, query, areas=NEEDED):

@@ -101,7 +101,7 @@ pub fn deepest(random: &mut Random) -> Sequences {
             strike(random, 30, &mut left);
             left
         }
-        4 => vec![wrapped(random, full.clone())],
+        4 => vec![wrapped(random, 500, full.clone())],
         _ => deep(random),
     };
     if random.chance(200) {
@@ -121,11 +121,13 @@ fn deep(random: &mut Random) -> Fields {
     fields
 }
 
+/// So many objects one in the other: none of them in a list, all, or some.
 fn nested(random: &mut Random, depth: usize) -> Fields {
+    let listed = random.pick(&[0, 500, 1_000]);
     let crowded = random.pick(&[0, 0, 100, 400]);
     let mut fields = Fields::new();
     for _ in 0..depth {
-        fields = vec![wrapped(random, fields)];
+        fields = vec![wrapped(random, listed, fields)];
         if random.chance(crowded) {
             fields.insert(random.below(2), some_field(random, 2));
         }
@@ -133,13 +135,13 @@ fn nested(random: &mut Random, depth: usize) -> Fields {
     fields
 }
 
-/// A field with an object, or with a list of it, in which these fields stand.
-fn wrapped(random: &mut Random, fields: Fields) -> Field {
-    let content = match random.below(5) {
-        0..2 => Content::Object(fields),
-        2 => Content::Objects(vec![Vec::new(), fields]),
-        3 => Content::Objects(vec![fields, Vec::new()]),
-        _ => Content::Objects(vec![fields]),
+/// A field with an object in which these fields stand, or with a list of it, so many times in a thousand.
+fn wrapped(random: &mut Random, listed: usize, fields: Fields) -> Field {
+    let content = match (random.chance(listed), random.below(3)) {
+        (false, _) => Content::Object(fields),
+        (true, 0) => Content::Objects(vec![Vec::new(), fields]),
+        (true, 1) => Content::Objects(vec![fields, Vec::new()]),
+        (true, _) => Content::Objects(vec![fields]),
     };
     Field { label: random.below(2) as u32, content }
 }

@@ -32,7 +32,7 @@ enum Way {
 }
 
 /// The kinds of pairs, and of each how often it comes up beside the others.
-const KINDS: [(&str, usize, Way); 33] = [
+const KINDS: [(&str, usize, Way); 34] = [
     ("nothing", 10, Way::Made(nothing)),
     ("equal", 10, Way::Made(equal)),
     ("a part", 20, Way::Made(part)),
@@ -60,6 +60,7 @@ const KINDS: [(&str, usize, Way); 33] = [
     ("token added", 25, Way::Damaged(token_damage::added)),
     ("tokens exchanged", 25, Way::Damaged(token_damage::exchanged)),
     ("tokens cut", 20, Way::Damaged(token_damage::cut)),
+    ("list mixed", 20, Way::Damaged(token_damage::list_mixed)),
     ("no token", 20, Way::Damaged(token_damage::no_token)),
     ("end of a range", 20, Way::Damaged(token_damage::end_of_a_range)),
     ("garbage", 10, Way::Damaged(token_damage::garbage)),

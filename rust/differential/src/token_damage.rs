@@ -82,6 +82,18 @@ pub fn end_of_a_range(random: &mut Random, tokens: &mut Vec<u32>) {
     tokens[place] = random.pick(&ENDS);
 }
 
+/// Something more at the head or at the end of a list, where it may stand or not.
+pub fn list_mixed(random: &mut Random, tokens: &mut Vec<u32>) {
+    if !tokens.contains(&OPEN_LIST) {
+        tokens.extend([LABELS, OPEN_LIST, CLOSE_LIST]);
+    }
+    let head = |place: &usize| *place > 0 && tokens[*place - 1] == OPEN_LIST;
+    let ends: Vec<usize> = (0..tokens.len()).filter(|place| head(place) || tokens[*place] == CLOSE_LIST).collect();
+    let place = random.pick(&ends);
+    let pieces = [&[0][..], &[NULL], &[OPEN_OBJECT, CLOSE_OBJECT], &[OPEN_LIST, CLOSE_LIST], &[LABELS, 0]];
+    tokens.splice(place..place, random.pick(&pieces).iter().copied());
+}
+
 /// Some tokens in any order.
 pub fn garbage(random: &mut Random, tokens: &mut Vec<u32>) {
     let count = random.below(9);

@@ -28,10 +28,7 @@ pub fn judge(full: &[u32], shortened: &[u32]) -> Reply {
     Reply { yes, outcome: Outcome::accepted(0, 0) }
 }
 
-/// Whether the fields from one place of `full` on can be shortened to those from one place of `shortened` on, for all pairs of
-/// places, those at the ends first: `can[j]` is this for the place in `full` that was last looked at. To nothing, always; else the
-/// first field of `full` is struck out, or it is kept and becomes the first of `shortened`. Two objects are compared from one
-/// place of one table alone, so that the whole takes at most one step for each pair of tokens.
+/// Whether fields can be shortened to others: a table for them, and one for each two objects or lists that meet in it.
 fn by_table(full: &[Field], shortened: &[Field]) -> bool {
     table(full, shortened, |one, other| one.label == other.label && becomes(&one.content, &other.content))
 }
@@ -45,7 +42,10 @@ fn becomes(full: &Content, shortened: &Content) -> bool {
     }
 }
 
-/// The table over fields, or over the objects of a list.
+/// The table over the fields of two objects, or over the objects of two lists: for all pairs of places, whether what stands from
+/// the one on in `full` can be shortened to what stands from the other on in `shortened`. To nothing it always can. Else the first
+/// in `full` is struck out, or it is kept as the first in `shortened`. The places at the end come first, and `can` holds the row
+/// of one place in `full`. Two things meet in one table alone, so that there are no more steps than pairs of things.
 fn table<T>(full: &[T], shortened: &[T], kept_as: impl Fn(&T, &T) -> bool) -> bool {
     let mut can = vec![false; shortened.len()];
     can.push(true);

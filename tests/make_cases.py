@@ -4,20 +4,21 @@
     python3 tests/make_cases.py --list      writes none, and lists the cases with their numbers and outcomes
 
 What is expected comes from tests/reference.py alone, and where 01 itself states an outcome, that is asserted too (`told`), as are
-the numbers and places of tests/hand_cases.py, which were worked out by hand. The
-head of crates/cases/src/main.rt has the form of both files. The vectors of tests/vectors are run with the rest; each of their
+the numbers and places of tests/hand_cases.py, which were worked out by hand. Judgements are those of tests/judging.py: worked out by
+hand, and the same as by enumeration wherever that can be made. The head of crates/cases/src/main.rt has the form of both files. The vectors of tests/vectors are run with the rest; each of their
 folders has three texts, and what the program `answer` writes for them.
 """
 import os
 import sys
 
 import hand_cases
+import judging
 import reference
 from reference import NEEDED
 
 HERE = os.path.dirname(os.path.abspath(__file__))
 REPOSITORY = os.path.dirname(HERE)
-SIZE, ANSWER = 0, 1
+SIZE, ANSWER, JUDGE = 0, 1, 2
 FILLING = 987654321
 WHOLE = 16384  # the largest room
 
@@ -51,6 +52,25 @@ class Case:
         """The line that the program writes: no number of any area is left, whatever the outcome."""
         outcome, buffer = self.expected()
         return "\t".join(str(n) for n in (number, *outcome, *(0 for _ in NEEDED), digest(buffer))) + "\n"
+
+
+class Judgement:
+    """One call that judges: its two sequences, and what is right."""
+
+    def __init__(self, name, full, shortened, told):
+        self.name, self.full, self.shortened, self.told = name, judging.tokens(full), judging.tokens(shortened), told
+
+    def framed(self):
+        """The case as the program reads it."""
+        numbers = (JUDGE, len(self.full), *self.full, len(self.shortened), *self.shortened)
+        return b" ".join(b"%010d" % n for n in numbers) + b"\n"
+
+    def line(self, number):
+        """The line that the program writes: 1 for yes or 0; the refusal's number; place, size and visits 0."""
+        found = judging.judge(self.full, self.shortened)
+        assert found is None or found == self.told, (self.name, self.told, found)
+        refusal = self.told if self.told in (71, 72) else 0
+        return "\t".join(str(n) for n in (number, int(self.told == "yes"), refusal, 0, 0, 0)) + "\n"
 
 
 def digest(buffer):
@@ -393,7 +413,13 @@ def by_hand():
         yield case
 
 
-GROUPS = (vectors, samples, rooms, areas, doubling, large, longest, worst, members, maxima, by_hand)
+def judged():
+    """The judgements that were worked out by hand."""
+    for full, shortened, told in judging.WORKED_OUT + judging.LARGE:
+        yield Judgement("judged %s: %s to %s" % (told, full[:40], shortened[:40]), full, shortened, told)
+
+
+GROUPS = (vectors, samples, rooms, areas, doubling, large, longest, worst, members, maxima, by_hand, judged)
 
 
 def main(only_list):

@@ -22,7 +22,7 @@ fn shown(digits: &[u8; 11]) -> u32 {
     for i in 0..10 {
         number = number % 1_000_000_000 * 10 + (digits[i] % 16) as u64;
     }
-    number as u32
+    (number % 4_294_967_296) as u32
 }
 
 // Reads a number.
@@ -35,6 +35,7 @@ fn read_number() -> u32 {
 // The number, or `most` where that is less.
 fn capped(number: u32, most: usize) -> usize
     ensures { λ r. ⌜ r ≤ most ⌝ }
+    ensures { λ r. ⌜ r ≤ number ⌝ }
 {
     let given = number as usize;
     if given < most { given } else { most }

@@ -8,34 +8,7 @@ abbrev Inv-loop : tie.InvT-loop
 Inv-loop digits number₀ i₀ number i = Unit {0}
 
 abbrev μ-loop : tie.MeasureT-loop
-μ-loop digits number₀ i₀ number i = 9 - i
-
-loop-holds : tie.Need-loop-holds Inv-loop μ-loop
-loop-holds c = search needs
-
-mul-number : tie.Need-mul-number Inv-loop μ-loop
-mul-number c = search needs
-
-element-copy-out-number : tie.Need-element-copy-out-number Inv-loop μ-loop
-element-copy-out-number c = search needs
-
-cast-number : tie.Need-cast-number Inv-loop μ-loop
-cast-number c = search needs
-
-add-number : tie.Need-add-number Inv-loop μ-loop
-add-number c = search needs
-
-add-i : tie.Need-add-i Inv-loop μ-loop
-add-i c = search needs
-
-loop-less : tie.Need-loop-less Inv-loop μ-loop
-loop-less c = search needs
-
-loop-again : tie.Need-loop-again Inv-loop μ-loop
-loop-again c = search needs
-
-returns : tie.Need-returns Inv-loop μ-loop
-returns c = search needs
+μ-loop digits number₀ i₀ number i = 10 - i
 
 pub shown-spec : {M : Type 1} → statement M
 shown-spec =
@@ -43,12 +16,13 @@ shown-spec =
     (tie.spec
     Inv-loop
     μ-loop
-    loop-holds
-    mul-number
-    element-copy-out-number
-    cast-number
-    add-number
-    add-i
-    loop-less
-    loop-again
-    returns)
+    (λ c. search needs)
+    (λ c. search needs)
+    (λ c. search needs)
+    (λ c. search needs)
+    (λ c. search needs)
+    (λ c. search needs)
+    (λ c. search needs)
+    (λ c. search needs)
+    (λ c. search needs)
+    (λ c. search needs))

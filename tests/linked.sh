@@ -42,7 +42,7 @@ link_but() {
 }
 
 # `rt` compiles for x86-64 alone. On Arm the tests link what the same clang makes, for this machine, of the same module: a kit that
-# is the installed one but for its clang, which is asked for another target.
+# is the installed one but for its clang, which is asked for another target, and given the module with large results as Arm has them.
 arm_kit() {
     local home own tools kit=$work/kit
     home=$(dirname "$(dirname "$(rt doc)")")
@@ -53,19 +53,9 @@ arm_kit() {
     link_but "$home/$own" "$kit/$own" toolchain
     link_but "$home/$tools" "$kit/$tools" bin
     link_but "$home/$tools/bin" "$kit/$tools/bin" clang
-    {
-        echo '#!/usr/bin/env bash'
-        echo 'words=()'
-        echo 'for word in "$@"; do'
-        echo '    case $word in'
-        echo '        --target=*) words+=(--target=aarch64-unknown-linux-gnu -Wno-override-module) ;;'
-        echo '        -march=*) ;;'
-        echo '        *) words+=("$word") ;;'
-        echo '    esac'
-        echo 'done'
-        echo "exec '$home/$tools/bin/clang' \"\${words[@]}\""
-    } >"$kit/$tools/bin/clang"
-    chmod +x "$kit/$tools/bin/clang"
+    ln -s "$PWD/tests/clang_on_arm.sh" "$kit/$tools/bin/clang"
+    ln -s "$PWD/tests/results_on_arm.awk" "$kit/$tools/bin"
+    ln -s "$home/$tools/bin/clang" "$kit/$tools/bin/own_clang"
     export RATTLE_HOME=$kit
 }
 

@@ -90,8 +90,11 @@ judged 4 "$refused_72" sample label
 complains 'label: line 1 is no token'
 
 # 16,384 tokens are a response, and 16,386 are none.
-yes $'L\t0\nV\t5' | head -n 16384 >"$work/most"
-yes $'L\t0\nV\t5' | head -n 16386 >"$work/more"
+fields() {
+    awk -v count="$1" 'BEGIN { for (i = 0; i < count; i++) print "L\t0\nV\t5" }'
+}
+fields 8192 >"$work/most"
+fields 8193 >"$work/more"
 judged 0 yes most most
 judged 4 "$refused_71" more most
 judged 4 "$refused_72" most more

@@ -9,7 +9,7 @@ are written the plain way, with lists, dictionaries, recursion and whole numbers
   that it evaluates, without multiplicities;
 - `Evaluation.visits` and `Evaluation.tally` are 01's multiplicities; `outcome` asserts that both ways agree.
 
-`size` and `answer` give number, place, size and visits of the two public calls, and `answer` the buffer afterwards.
+`size` and `answer` give number, place, size and visits of the calls that size and answer, and `answer` the buffer afterwards.
 
     python3 tests/reference.py VECTORS      compares it with each folder of vectors (schema.txt, graph.txt, query.txt, expected.txt)
 """

@@ -83,7 +83,7 @@ AllZeros [] (b ∷ bs) = ⊥
 AllZeros (a ∷ more) [] = ⊥
 AllZeros (a ∷ more) (b ∷ bs) = Zeros (a .held) b × AllZeros more bs
 
--- ---- the two calls
+-- ---- sizing and answering
 
 -- What sizing returns, and the work areas afterwards.
 pub record Sizes (areas : List Area) (x : Texts) (o : Outcome) (areas′ : List (List ℕ)) : Type 0 where

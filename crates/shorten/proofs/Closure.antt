@@ -1,7 +1,6 @@
 -- What `Shorter` says is what striking out, one thing at a time, can make. Assumes nothing.
-use mathlib.Core.Path.{_≡_, refl, sym, subst}
+use mathlib.Core.Path.{refl, sym, subst}
 use mathlib.Core.Logic.{inl, inr}
-use Prim.Native.Nat.{ℕ}
 use Rattle.tokens.specs.Response.{Response, done, field, Content, value, null, values, object, objects, Objects, none, one}
 use Rattle.shorten.proofs.Shorter.{Shorter, Keeps, Among}
 use Rattle.shorten.specs.Strikes.{Strike, this, later, within, StrikeContent, in-object, in-objects, StrikeObjects, this-object, later-object, within-object, Many, enough, more, Strikes}

@@ -8,7 +8,7 @@ use native.Mathlib.Omega.{arith}
 use native.Mathlib.Decide.{ℕ-discrete}
 use lib.ListN.{length, drop}
 use borrow.Author.Tests.{eq-eqb, ne-eqb}
-use Rattle.rules.specs.Eval.{label, openObject, closeObject, openList, closeList, null as nullToken}
+use Rattle.rules.specs.Eval.{label, openObject, openList, closeList, null as nullToken}
 use Rattle.tokens.specs.Response.{Response, done, field, Content, value, null, values, object, objects, Objects, none, one, tokens, contents, listed, largestLabel, Within, WithinContent, WithinObjects}
 use Rattle.shorten.specs.Pass.{sideOf, hits, mostBrackets}
 use Rattle.shorten.specs.declared.Side.the-variants.{Plain, Named, Opener}

@@ -15,7 +15,7 @@ use Rattle.shorten.specs.declared.Side.the-variants.{Opener, Closer}
 use Rattle.shorten.proofs.Sides.{side-open, side-close, side-end}
 use Rattle.shorten.proofs.Way.{way, pass, step, regroup}
 use Rattle.shorten.proofs.StruckOut.{gone, strike}
-use Rattle.shorten.proofs.Shorter.{Shorter, Keeps, Among, differ}
+use Rattle.shorten.proofs.Shorter.{Shorter, Among, differ}
 use Rattle.shorten.proofs.Left.{tail-objects, all-struck, Stops, fieldOf, Left, LeftObjects, Takes, Leaves, Passes, Meets, Gathers, no-fields, fields, head, refused}
 use Rattle.shorten.proofs.Plain.{push, enter, meet-value, meet-null, meet-values}
 

@@ -9,15 +9,15 @@ use native.Mathlib.Decide.{ℕ-discrete}
 use lib.ListN.{length, drop}
 use borrow.Author.Tests.{lt-ltb, eq-eqb, ne-eqb}
 use Rattle.rules.specs.Text.{largest}
-use Rattle.rules.specs.Eval.{label, openObject, closeObject, openList, closeList, null as nullToken}
+use Rattle.rules.specs.Eval.{label, openObject, openList, closeList, null as nullToken}
 use Rattle.rules.proofs.Sound.{Small}
-use Rattle.tokens.specs.Response.{Content, value, null, values, object, objects, Objects, none, one, tokens, contents, listed, largestLabel, Within, WithinContent, WithinObjects}
+use Rattle.tokens.specs.Response.{value, null, values, object, objects, Objects, none, one, tokens, listed, largestLabel, Within, WithinObjects}
 use Rattle.shorten.specs.Pass.{sideOf, hits, mostBrackets}
 use Rattle.shorten.specs.declared.Side.the-variants.{Plain, Opener, Closer}
 use Rattle.shorten.proofs.Sides.{side-value, side-null, side-begin, side-end}
 use Rattle.shorten.proofs.Way.{way, pass, step, regroup}
-use Rattle.shorten.proofs.Shorter.{Shorter, Keeps, differ}
-use Rattle.shorten.proofs.Left.{fieldOf, Takes, Leaves, Meets, head, refused}
+use Rattle.shorten.proofs.Shorter.{Shorter, differ}
+use Rattle.shorten.proofs.Left.{Takes, Leaves, Meets, head, refused}
 
 -- ---- values and null
 

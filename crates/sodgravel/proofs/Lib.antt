@@ -1,3 +1,4 @@
 pub mod Clearing
 pub mod Rules
 pub mod Demands
+pub mod Promised

@@ -11,8 +11,8 @@ use lib.ListN.{length}
 use borrow.Author.Tests.{le-ltb, leb-true, eqb-true}
 use Rattle.rules.specs.Lists.{Each}
 use Rattle.rules.specs.Text.{largest}
-use Rattle.rules.specs.Eval.{label, openObject, closeObject, openList, closeList, null as nullToken}
-use Rattle.tokens.specs.Response.{Response, done, field, Content, value, null, values, object, objects, Objects, none, one, tokens, contents, listed, Within, WithinContent, WithinObjects, mostOpen, mostTokens, Reading, IsResponse}
+use Rattle.rules.specs.Eval.{openObject, closeObject, openList, closeList, null as nullToken}
+use Rattle.tokens.specs.Response.{Response, done, field, Content, value, null, values, object, objects, Objects, none, one, tokens, contents, listed, Within, WithinContent, WithinObjects, mostOpen, mostTokens, IsResponse}
 use Rattle.tokens.specs.Check.{isValue, isLabel, state, start, broken, fullNest, deeper, shut, onFields, onContent, onFirst, onValues, onObjects, stepOf, accepts}
 use Rattle.tokens.specs.declared.Mode.{Mode}
 use Rattle.tokens.specs.declared.Mode.the-variants.{Fields, Labelled, Opened, InValues, InObjects, Broken}

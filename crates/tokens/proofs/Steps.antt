@@ -1,5 +1,5 @@
 -- One token of the check: where each leads, and the open objects as one number. Assumes nothing.
-use mathlib.Core.Path.{_≡_, refl, ap}
+use mathlib.Core.Path.{_≡_, ap}
 use mathlib.Core.Bool.{Bool, true, false}
 use mathlib.Core.List.{List, [], _∷_}
 use Prim.Native.Nat.{ℕ, suc, _+_, _*_, _/_, _%_, _^_, _≤_, _<_}
@@ -11,7 +11,7 @@ use borrow.Author.Tests.{lt-ltb, le-ltb, le-leb, eq-eqb, ne-eqb}
 use Rattle.rules.specs.Text.{largest}
 use Rattle.rules.specs.Eval.{label, closeObject}
 use Rattle.tokens.specs.Response.{largestLabel, mostOpen}
-use Rattle.tokens.specs.Check.{isLabel, state, fullNest, deeper, shut, accepts, stepOf, onFields, onContent, onFirst, onValues}
+use Rattle.tokens.specs.Check.{state, fullNest, deeper, shut, accepts, stepOf, onFields, onContent, onFirst, onValues}
 use Rattle.tokens.specs.declared.Mode.the-variants.{Fields, Labelled, InValues, InObjects}
 use Rattle.tokens.specs.declared.State.{State}
 use Rattle.tokens.proofs.Labels.{label-is, close-no-label}

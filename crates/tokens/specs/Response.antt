@@ -1,7 +1,7 @@
 -- Responses by Definition 5, as trees, and their tokens. Assumes nothing.
 use mathlib.Core.Path.{_≡_}
 use mathlib.Core.List.{List, [], _∷_, _++_}
-use Prim.Native.Nat.{ℕ, _+_, _-_, _≤_, _<_}
+use Prim.Native.Nat.{ℕ, _-_, _≤_, _<_}
 use lib.ListN.{length}
 use Rattle.rules.specs.Lists.{Each}
 use Rattle.rules.specs.Text.{largest}

@@ -1,5 +1,5 @@
 -- `shorten::stands_at` meets its contract: there is a token at o, or the sequence ends. Assumes nothing.
-use mathlib.Core.Path.{_≡_, sym, ap}
+use mathlib.Core.Path.{sym, ap}
 use lib.ListN.{drop-of-length-le}
 use Rattle.tokens.proofs.Checked.{drop-more}
 use Rattle.shorten.specs.Pass.{hits}

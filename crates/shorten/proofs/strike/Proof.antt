@@ -1,5 +1,5 @@
 -- `shorten::strike` meets its contract: each arm, by what the arm says of the side. Assumes nothing.
-use mathlib.Core.Path.{_≡_, ap, _∙_}
+use mathlib.Core.Path.{ap, _∙_}
 use native.Mathlib.Omega.{arith}
 use Rattle.shorten.specs.Pass.{settled}
 use Rattle.shorten.proofs.Turns.{closer-settled}

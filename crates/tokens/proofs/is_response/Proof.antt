@@ -1,5 +1,5 @@
 -- `tokens::is_response` meets its contract: what is left is accepted from where the check stands as the whole is from its beginning. Assumes nothing.
-use mathlib.Core.Path.{_≡_, refl, sym, ap, _∙_}
+use mathlib.Core.Path.{_≡_, sym, ap, _∙_}
 use Prim.Native.Nat.{_≤_, _-_}
 use lib.ListN.{length, drop}
 use Rattle.tokens.specs.Response.{mostTokens}

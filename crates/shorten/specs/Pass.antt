@@ -29,6 +29,9 @@ hits x (y ∷ s) = eqb y x
 abbrev pub mostBrackets : ℕ
 mostBrackets = 33
 
+-- Modes: 0 in a bracket that stands in both, 1 behind a label that the rest begins with, 2 behind another label, and 2 + k where k
+-- brackets are open in what is struck out.
+
 -- The mode where k brackets are open in what is struck out, behind a content.
 abbrev pub settled : ℕ → ℕ
 settled zero = 0

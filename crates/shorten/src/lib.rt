@@ -18,6 +18,16 @@ use rules::Reply;
 // At most so many brackets are open at once in a response: 16 objects, each in a list, and one more list.
 const MOST_BRACKETS: usize = 33;
 
+// The modes of the pass: in a bracket that stands in both; behind a label that the rest begins with; behind another label, whose content
+// is struck out; and in a bracket of what is struck out, each further one being one more.
+const IN_BOTH: usize = 0;
+
+const NAMED: usize = 1;
+
+const STRIKING: usize = 2;
+
+const IN_STRUCK: usize = 3;
+
 // What a token is to the pass: a value or null, a label, the beginning of a bracket or its end.
 pub enum Side {
     Plain,
@@ -27,8 +37,7 @@ pub enum Side {
 }
 
 // Where the pass over the full response stands. `place` is where the rest of the shortened one begins that is still to be found, and
-// `depth` how many brackets are open that stand in both. `mode` is 0 in such a bracket, 1 behind a label that the rest begins with, 2
-// behind another label, and 2 + k where k brackets are open in what is struck out.
+// `depth` how many brackets are open that stand in both.
 pub struct Stand {
     pub mode: usize,
     pub place: usize,
@@ -75,9 +84,9 @@ fn settle(k: usize) -> usize
     ensures { λ r. ⌜ r ≡ settled k ⌝ }
 {
     if k == 0 {
-        return 0;
+        return IN_BOTH;
     }
-    k + 2
+    k + STRIKING
 }
 
 // One less, or 0.
@@ -98,7 +107,7 @@ fn strike(d: Side, k: usize) -> usize
     match d {
         Side::Plain => settle(k),
         Side::Named => settle(k),
-        Side::Opener => k + 3,
+        Side::Opener => k + IN_STRUCK,
         Side::Closer => settle(one_less(k)),
     }
 }
@@ -120,12 +129,12 @@ fn on_plain(hit: bool, w: Stand, back: usize) -> Stand
     ensures { λ r. ⌜ r ≡ onPlain hit (w .mode) (w .place) (w .depth) back ⌝ }
 {
     if hit {
-        return standing(0, w.place + w.mode + 1, w.depth);
+        return standing(IN_BOTH, w.place + w.mode + 1, w.depth);
     }
-    if w.mode == 0 {
-        return standing(0, back, w.depth);
+    if w.mode == IN_BOTH {
+        return standing(IN_BOTH, back, w.depth);
     }
-    standing(0, w.place, w.depth)
+    standing(IN_BOTH, w.place, w.depth)
 }
 
 // Behind a label.
@@ -133,9 +142,9 @@ fn on_named(hit: bool, w: Stand) -> Stand
     ensures { λ r. ⌜ r ≡ onNamed hit (w .place) (w .depth) ⌝ }
 {
     if hit {
-        return standing(1, w.place, w.depth);
+        return standing(NAMED, w.place, w.depth);
     }
-    standing(2, w.place, w.depth)
+    standing(STRIKING, w.place, w.depth)
 }
 
 // Behind `{` or `[`.
@@ -145,12 +154,12 @@ fn on_opener(hit: bool, w: Stand) -> Stand
     ensures { λ r. ⌜ r ≡ onOpener hit (w .mode) (w .place) (w .depth) ⌝ }
 {
     if !hit {
-        return standing(3, w.place, w.depth);
+        return standing(IN_STRUCK, w.place, w.depth);
     }
     if w.depth < MOST_BRACKETS {
-        return standing(0, w.place + w.mode + 1, w.depth + 1);
+        return standing(IN_BOTH, w.place + w.mode + 1, w.depth + 1);
     }
-    standing(3, w.place, w.depth)
+    standing(IN_STRUCK, w.place, w.depth)
 }
 
 // Behind `}` or `]`. Where the rest goes on, the bracket as a whole is none of the shortened response's, and the pass goes back.
@@ -161,9 +170,9 @@ fn on_closer(hit: bool, w: Stand, back: usize) -> Stand
 {
     let outside = one_less(w.depth);
     if hit {
-        return standing(0, w.place + w.mode + 1, outside);
+        return standing(IN_BOTH, w.place + w.mode + 1, outside);
     }
-    standing(0, back, outside)
+    standing(IN_BOTH, back, outside)
 }
 
 // One token of the full response: `hit` says whether the rest of the shortened one has it too.
@@ -172,8 +181,8 @@ fn turn(d: Side, hit: bool, w: Stand, back: usize) -> Stand
     requires { ⌜ w .place ≤ mostTokens ⌝ }
     ensures { λ r. ⌜ r ≡ turnOf d hit w back ⌝ }
 {
-    if w.mode >= 2 {
-        return standing(strike(d, w.mode - 2), w.place, w.depth);
+    if w.mode >= STRIKING {
+        return standing(strike(d, w.mode - STRIKING), w.place, w.depth);
     }
     match d {
         Side::Plain => on_plain(hit, w, back),
@@ -191,7 +200,7 @@ fn made_from(full: &[u32], shortened: &[u32]) -> bool
     ensures { λ r. ⌜ (r ≡ true) ↔ Shortened (now (full .entry)) (now (shortened .entry)) ⌝ }
 {
     let mut saved = [0usize; MOST_BRACKETS + 1];
-    let mut w = standing(0, 0, 0);
+    let mut w = standing(IN_BOTH, 0, 0);
     let mut i = 0;
     while i < full.len() {
         let x = full[i];

@@ -116,6 +116,7 @@ closed_output() { ./judge "$work/sample" "$work/$1" >&-; }
 ends 3 full_output sample
 ends 3 full_output cut
 ends 3 closed_output sample
+CDPATH=/tmp:/ ends 0 bash -c 'cd / && "${0#/}/judge" "$1" "$2" >/dev/null' "$PWD" "$work/sample" "$work/sample"
 SODGRAVEL_CASES=/bin/false ends 3 ./judge "$work/sample" "$work/sample"
 SODGRAVEL_CASES=/bin/true ends 3 ./judge "$work/sample" "$work/sample"
 say "./judge ended and printed as it must, $tried times"

@@ -2,7 +2,7 @@
 use mathlib.Core.Path.{_≡_, refl, sym, ap, subst, _∙_}
 use mathlib.Core.Logic.{_⊎_, inl, inr}
 use mathlib.Core.Bool.{true, false}
-use mathlib.Core.List.{List, [], _∷_, _++_, append-assoc}
+use mathlib.Core.List.{List, [], _∷_, _++_, append-assoc, List-discrete}
 use Prim.Native.Nat.{ℕ, _≤_, _<_}
 use native.Mathlib.Omega.{arith}
 use native.Mathlib.Decide.{ℕ-discrete}
@@ -122,17 +122,6 @@ module _ (f : List ℕ) (st : List (List ℕ)) (l : ℕ) (wl : l ≤ largestLabe
           ∙ i (λ q. n (cc))
       go i (no p) = values-miss (v ∷ vs) w (y ∷ (ws ++ closeList ∷ s)) (ne-eqb y v p)
 
-same-list : (a b : List ℕ) → Dec (a ≡ b)
-same-list [] [] = yes refl
-same-list [] (y ∷ b) = no (λ p. differ (cc))
-same-list (x ∷ a) [] = no (λ p. differ (cc))
-same-list (x ∷ a) (y ∷ b) = go (ℕ-discrete x y) (same-list a b)
-  where
-    go : Dec (x ≡ y) → Dec (a ≡ b) → Dec (x ∷ a ≡ y ∷ b)
-    go (yes p) (yes q) = yes (cc)
-    go (no p) q = no (λ e. p (cc))
-    go (yes p) (no q) = no (λ e. q (cc))
-
 module _ (vs : List ℕ) (d : ℕ) (w : Small vs) where
   -- a list of values, met by a list of objects: `[ ]` is both
   values-objects : (ps : Objects) (e : ℕ) → WithinObjects ps e → (us : List ℕ) → vs ≡ us
@@ -172,7 +161,7 @@ module _ (vs : List ℕ) (d : ℕ) (w : Small vs) where
   meet-values null e h = refused (values vs) d w null e (λ s. refl) (λ k. differ (cc))
   meet-values (object y) e h = refused (values vs) d w (object y) e (λ s. refl) (λ k. differ (cc))
   meet-values (objects ps) e h = values-objects ps e h vs refl
-  meet-values (values ws) e h = go (same-list vs ws)
+  meet-values (values ws) e h = go (List-discrete ℕ-discrete vs ws)
     where
       go : Dec (vs ≡ ws) → Takes (values vs) (values ws) d e ⊎ Leaves (values vs) (values ws) d
       go (yes p) = inl (record {

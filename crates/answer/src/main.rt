@@ -1,5 +1,7 @@
 // Answers the query of the folder that it is run in: reads schema.txt, graph.txt and query.txt, and writes the outcome and the
 // response, one token to a line. 01 has the form of both ('The sample unit'), and `data` and `stdout` have its sample.
+#![tactic(auto)]
+
 ghost use Rattle.std.specs.Prelude.{◌≤◌, length};
 ghost use Rattle.io.specs.Counts.{IsPrefixLen};
 

@@ -1,4 +1,6 @@
 // The bits of a 64-bit number: one asked, one set.
+#![tactic(auto)]
+
 ghost use Rattle.std.specs.Prelude.{◌≡◌, ◌<◌, ◌^◌};
 ghost use Rattle.std.specs.Int.Bits.{bit_or};
 ghost use Rattle.bits.specs.Bits.{bit};

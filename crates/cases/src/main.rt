@@ -9,6 +9,8 @@
 // A line has the case's number, from 1 on. Where the call sizes or answers: refusal number, place, size and visits; how many numbers
 // of each of the seven areas are not zero after the call; and the digest of the buffer after the call. Where it judges: 1 for yes
 // or 0; refusal number, place, size and visits.
+#![tactic(auto)]
+
 ghost use Rattle.std.specs.Prelude.{◌≤◌, length};
 ghost use Rattle.io.specs.Counts.{IsPrefixLen};
 

@@ -1,5 +1,7 @@
 // The type of a verdict, the first two checks of any text, and the verdict on a schema's text: every check in ascending order, each
 // over its whole text before the next.
+#![tactic(auto)]
+
 ghost use Rattle.std.specs.Prelude.{◌≡◌, ◌≤◌, length};
 ghost use Rattle.rules.specs.Search.{spot};
 ghost use Rattle.rules.specs.Text.{rows, lines};
@@ -12,7 +14,7 @@ ghost use Rattle.search.specs.Search.{areas, SchemaReady};
 use rules::Spot;
 
 // The number of the first check that is offended and the spot, number 0 where none is.
-#[derive(Drop)]
+#[derive(Clone, Copy)]
 pub struct Verdict {
     pub number: u32,
     pub spot: Spot,

@@ -1,4 +1,6 @@
 // Definition 6 over the tables: entry and selection call each other, writing tokens from a position on.
+#![tactic(auto)]
+
 ghost use Rattle.std.specs.Prelude.{◌≡◌, ◌≤◌, ◌<◌, [], ◌∷◌, length, get_or};
 ghost use Rattle.rules.specs.Eval.{value};
 ghost use Rattle.tables.specs.Read.{cell, values_at};

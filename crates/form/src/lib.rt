@@ -1,4 +1,6 @@
 // The text form: checks 10, 20 and 30.
+#![tactic(auto)]
+
 ghost use Rattle.std.specs.Prelude.{◌≡◌, ◌+◌, ◌*◌, ◌≤◌, ◌<◌, length};
 ghost use Rattle.rules.specs.Text.{lines};
 ghost use Rattle.rules.specs.Search.{as_fault, spot_or, first_line};

@@ -1,4 +1,6 @@
 // What graph areas say, asked by number, and what checks 22 to 26 say of one row.
+#![tactic(auto)]
+
 ghost use Rattle.std.specs.Prelude.{◌≡◌, ◌+◌, ◌*◌, ◌-◌, ◌≤◌, ◌<◌, ◌||◌, length, get_or, eqb};
 ghost use Rattle.rules.specs.Search.{as_fault};
 ghost use Rattle.rules.specs.Graph.{same_label};
@@ -11,7 +13,7 @@ ghost use Rattle.graph.specs.Faults.{nodes_at, label_is, label_for, undeclared, 
 use rules::{ArgNo, Fault, FieldNo, TypeNo};
 
 // A label, copied: the field, how many pairs, and up to four pairs of argument number and value.
-#[derive(Drop)]
+#[derive(Clone, Copy)]
 pub struct Named {
     pub field: FieldNo,
     pub n: u32,

@@ -1,4 +1,6 @@
 // The verdict on a graph's text under an accepted schema: checks 20 to 27.
+#![tactic(auto)]
+
 ghost use Rattle.std.specs.Prelude.{◌≡◌, ◌≤◌, length};
 ghost use Rattle.rules.specs.Text.{rows, lines};
 ghost use Rattle.rules.specs.Graph.{nodes_of};

@@ -1,5 +1,7 @@
 // Chains of the rows of a table that have the same key; of them the index of a graph: of each node its edges and its properties, in the
 // order of the graph; and in the schema's area, of each first number the rows of H, G and M.
+#![tactic(auto)]
+
 ghost use Rattle.std.specs.Prelude.{◌≡◌, cond, ◌+◌, ◌≤◌, ◌<◌, length, ltb};
 ghost use Rattle.rules.specs.Text.{rows, lines};
 ghost use Rattle.rules.proofs.Clean.{Each};

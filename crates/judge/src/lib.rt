@@ -1,5 +1,7 @@
 // The verdict on three texts: of the schema's checks, the graph's and the query's the first that is offended. No call has to have
 // been made before it.
+#![tactic(auto)]
+
 ghost use Rattle.std.specs.Prelude.{◌≡◌, ◌≤◌, length};
 ghost use Rattle.masks.specs.Masks.{schema_needed};
 ghost use Rattle.judge.specs.Texts.{texts, lent, too_short_of, Judged};

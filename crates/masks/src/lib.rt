@@ -1,5 +1,7 @@
 // The masks of a schema, behind the links in its area: for each type one number of 64 bits, in which bit o is set where o is an object
 // type that is compatible with it.
+#![tactic(auto)]
+
 ghost use Rattle.std.specs.Prelude.{◌≡◌, ◌≤◌, ◌<◌, length};
 ghost use Rattle.tables.specs.Read.{cell, schema_at};
 ghost use Rattle.masks.specs.Masks.{member_of, members_of, schema_needed, cell_size, masked, mask_at, Masked};

@@ -1,4 +1,6 @@
 // What a query area says, and checks 32 to 34 over its entries.
+#![tactic(auto)]
+
 ghost use Rattle.std.specs.Prelude.{◌≡◌, ◌+◌, ◌*◌, ◌≤◌, ◌<◌};
 ghost use Rattle.rules.specs.Search.{as_fault, spot_or, first_line};
 ghost use Rattle.rules.specs.Query.{has_child, hands_down};

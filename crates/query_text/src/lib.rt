@@ -1,4 +1,6 @@
 // The verdict on a query's text under an accepted schema: checks 30 to 34.
+#![tactic(auto)]
+
 ghost use Rattle.std.specs.Prelude.{◌≡◌, ◌≤◌, length};
 ghost use Rattle.tables.specs.Read.{schema_at};
 ghost use Rattle.schema.specs.Held.{SchemaHeld};

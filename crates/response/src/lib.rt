@@ -1,5 +1,7 @@
 // What the public calls do before they zero the areas: judging, sizing, holding the size against the room, and writing. Neither
 // function asks anything of its caller.
+#![tactic(auto)]
+
 ghost use Rattle.std.specs.Prelude.{◌≡◌, leb};
 ghost use Rattle.rules.specs.Answer.{space};
 ghost use Rattle.judge.specs.Texts.{texts, lent};

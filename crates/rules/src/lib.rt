@@ -1,25 +1,26 @@
 // The plain types that the definitions and the code share.
+#![tactic(auto)]
 
 // Document 000 takes field, argument and type names as disjoint sets, so a number of one kind never serves as one of another.
-#[derive(Drop)]
+#[derive(Clone, Copy)]
 pub struct FieldNo(pub u32);
 
-#[derive(Drop)]
+#[derive(Clone, Copy)]
 pub struct ArgNo(pub u32);
 
-#[derive(Drop)]
+#[derive(Clone, Copy)]
 pub struct TypeNo(pub u32);
 
 // Where a text offends: the line, counted from 1, and the field in it, the letter being 1. Line 0 is the whole text,
 // field 0 the whole line, another line or something missing.
-#[derive(Drop)]
+#[derive(Clone, Copy)]
 pub struct Spot {
     pub line: u32,
     pub field: u32,
 }
 
 // What a check says of one line: nothing, or the field at fault.
-#[derive(Drop)]
+#[derive(Clone, Copy)]
 pub enum Fault {
     Fine,
     Field(u32),
@@ -40,7 +41,7 @@ pub const NULL: u32 = 2_000_000_005;
 
 // What a call returns: number, place, size, visits. Laid out as in C, so that it can be handed to C by value.
 #[repr(C)]
-#[derive(Drop)]
+#[derive(Clone, Copy)]
 pub struct Outcome {
     pub number: u32,
     pub place: u32,
@@ -50,7 +51,7 @@ pub struct Outcome {
 
 // What a call that says yes or no returns: 1 for yes and 0 for no, both with number 0; in a refusal 0, and the refusal's number.
 #[repr(C)]
-#[derive(Drop)]
+#[derive(Clone, Copy)]
 pub struct Reply {
     pub yes: u32,
     pub outcome: Outcome,

@@ -1,4 +1,6 @@
 // What a schema area says, asked by number, and what checks 12, 14 and 15 say of one row.
+#![tactic(auto)]
+
 ghost use Rattle.std.specs.Prelude.{◌≡◌, ◌+◌, ◌*◌, ◌≤◌, ◌<◌, length};
 ghost use Rattle.rules.specs.Search.{as_fault};
 ghost use Rattle.rules.specs.Schema.{kind, field_type, list_mark, has_field, takes_arg, declared_type, declared_field, declared_arg, arg_type, query_type, is_scalar, is_object, owns_fields, has_members, in_range, compatible};

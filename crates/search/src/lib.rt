@@ -1,4 +1,6 @@
 // The one search for the first line that offends: nested over lines and earlier lines, left by a label with the offending line.
+#![tactic(auto)]
+
 ghost use Rattle.std.specs.Prelude.{◌≡◌, [], ◌&&◌, leb, ◌+◌, ◌≤◌, ◌<◌, length};
 ghost use Rattle.rules.specs.Lists.{one_if};
 ghost use Rattle.rules.specs.Text.{lines, rows};
@@ -14,7 +16,7 @@ ghost use Rattle.search.specs.Search.{areas, graph_in, check_by, alone11, alone2
 use rules::{Fault, FieldNo, Spot};
 
 // How many lines of each kind have been passed, how many values they have, and how many they are.
-#[derive(Drop)]
+#[derive(Clone, Copy)]
 struct Counts {
     types: u32,
     fields: u32,

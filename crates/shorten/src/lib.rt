@@ -1,4 +1,6 @@
 // Judging shortened exports: whether one sequence of tokens is made from another by striking out.
+#![tactic(auto)]
+
 ghost use Rattle.std.specs.Prelude.{◌≡◌, ◌↔◌, true, ◌-◌, ◌≤◌, ◌<◌, drop};
 ghost use Rattle.tokens.specs.Response.{most_tokens, IsResponse};
 ghost use Rattle.shorten.specs.Strikes.{Shortened};
@@ -21,7 +23,7 @@ const STRIKING: usize = 2;
 const IN_STRUCK: usize = 3;
 
 // What a token is to the pass: a value or null, a label, the beginning of a bracket or its end.
-#[derive(Drop)]
+#[derive(Clone, Copy)]
 pub enum Side {
     Plain,
     Named,
@@ -31,7 +33,7 @@ pub enum Side {
 
 // Where the pass over the full response stands. `place` is where the rest of the shortened one begins that is still to be found, and
 // `depth` how many brackets are open that stand in both.
-#[derive(Drop)]
+#[derive(Clone, Copy)]
 pub struct Stand {
     pub mode: usize,
     pub place: usize,

@@ -1,4 +1,6 @@
 // Sizing: one pass over the query's entries, with a row of capped multiplicities for each depth, and a running tally.
+#![tactic(auto)]
+
 ghost use Rattle.std.specs.Prelude.{◌≡◌, ◌+◌, ◌≤◌, ◌<◌, length, get_or, set, replicate, []};
 ghost use Rattle.rules.specs.Sizing.{start, visits_of, own, of_value, cap as capped};
 ghost use Rattle.tables.specs.Layout.{laid};
@@ -15,7 +17,7 @@ use rules::{FieldNo, TypeNo};
 // ---- the tally
 
 // The size so far, as it is shown, and the visits so far.
-#[derive(Drop)]
+#[derive(Clone, Copy)]
 pub struct Tally {
     pub size: u32,
     pub visits: u32,

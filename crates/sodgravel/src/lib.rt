@@ -1,4 +1,6 @@
 // The public calls: one sizes a query, one answers it. Each makes all checks, and neither asks anything of its caller.
+#![tactic(auto)]
+
 ghost use Rattle.std.specs.Prelude.{◌≡◌};
 ghost use Rattle.judge.specs.Texts.{texts, lent};
 ghost use Rattle.response.specs.Calls.{sized_in, answered_in, buffer_in};

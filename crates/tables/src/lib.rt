@@ -1,4 +1,6 @@
 // Tables in lent work areas: clearing an area, laying the rows of an accepted text out in it, and reading a cell.
+#![tactic(auto)]
+
 ghost use Rattle.std.specs.Prelude.{◌≡◌, ◌+◌, ◌*◌, ◌-◌, ◌≤◌, ◌<◌, [], ◌∷◌, length, drop, replicate};
 ghost use Rattle.rules.specs.Text.{rows, row, lines};
 ghost use Rattle.rules.specs.Schema.{is_type};
@@ -193,7 +195,7 @@ fn put_values(s: &[u8], at: usize, r: text::Row, area: &mut [u32], place: usize)
 }
 
 // How many nodes, edges, properties and values a graph has.
-#[derive(Drop)]
+#[derive(Clone, Copy)]
 struct GraphCounts {
     nodes: u32,
     edges: u32,
@@ -238,7 +240,7 @@ fn fill_graph(s: &[u8], g: &mut [u32], p: &mut [u32], v: &mut [u32]) -> GraphCou
 }
 
 // How many Q records a schema has, and the type that the first names.
-#[derive(Drop)]
+#[derive(Clone, Copy)]
 struct Queries {
     count: u32,
     first: u32,
@@ -262,7 +264,7 @@ fn ask(q: Queries, letter: u8, first: u32) -> Queries
 }
 
 // How many rows each table of a schema has, and its Q records.
-#[derive(Drop)]
+#[derive(Clone, Copy)]
 struct SchemaCounts {
     types: u32,
     fields: u32,

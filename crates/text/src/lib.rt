@@ -1,4 +1,6 @@
 // Reading a text: numbers, and whole lines as rows.
+#![tactic(auto)]
+
 ghost use Rattle.std.specs.Prelude.{◌≡◌, true, ◌+◌, ◌≤◌, drop, set};
 ghost use Rattle.text.specs.Number.{DigitAt, ByteAt, stop_in, number_at};
 ghost use Rattle.text.specs.Line.{unread_row, row_at};
@@ -6,7 +8,7 @@ ghost use Rattle.text.specs.Line.{unread_row, row_at};
 pub mod reader; // reader.rt: a text and a position in it, held together
 
 // What reading a number at a position finds: the number and where its field ends, or where the reader stopped.
-#[derive(Drop)]
+#[derive(Clone, Copy)]
 pub enum Num {
     Value { value: u32, next: usize },
     Fault { at: usize },
@@ -15,7 +17,7 @@ pub enum Num {
 // A line that was read: its letter, how many numbers it has up to the first field that is none, the first twelve of them, that
 // field (1 where the first field is no letter, 0 where there is none), whether a newline ends the line, and where the next one
 // starts. A line that is empty has the letter 0 and no bad field.
-#[derive(Drop)]
+#[derive(Clone, Copy)]
 pub struct Row {
     pub letter: u8,
     pub count: usize,

@@ -5,7 +5,7 @@ ghost use Rattle.text.specs.Line.{row_at};
 
 use super::Row;
 
-#[derive(Drop)]
+#[derive(Clone, Copy)]
 pub struct LineReader<'a> {
     pub text: &'a [u8],
     pub at: usize,

@@ -1,5 +1,7 @@
 // Sequences of tokens: whether one is a response by Definition 5. The tokens are looked at one after another; what is kept is only
 // what may come next and which objects are open.
+#![tactic(auto)]
+
 ghost use Rattle.std.specs.Prelude.{◌≡◌, ◌↔◌, true, ◌≤◌};
 ghost use Rattle.tokens.specs.Response.{IsResponse};
 ghost use Rattle.tokens.specs.Check.{is_label, state, broken, deeper, shut, on_fields, on_content, on_first, on_values, on_objects, step_of, finished_at};
@@ -18,7 +20,7 @@ const FULL_NEST: u32 = 65_536;
 
 // What may come next: a field or the end of the fields; the content behind a label; the first of a list or its end; a further value
 // or the end; a further object or the end; or nothing, since the sequence is no response.
-#[derive(Drop)]
+#[derive(Clone, Copy)]
 pub enum Mode {
     Fields,
     Labelled,
@@ -30,7 +32,7 @@ pub enum Mode {
 
 // A check on its way. In `nest`, below a leading 1, stands a binary digit for each open object, the innermost last: 1 where the object
 // is one of a list.
-#[derive(Drop)]
+#[derive(Clone, Copy)]
 pub struct State {
     pub mode: Mode,
     pub nest: u32,

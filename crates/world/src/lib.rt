@@ -1,4 +1,6 @@
 // What evaluation asks of the tables: shape, lookup, targets, holds, and the query node.
+#![tactic(auto)]
+
 ghost use Rattle.std.specs.Prelude.{◌≡◌, ◌+◌, ◌*◌, ◌-◌, ◌≤◌, ◌<◌, length, get_or, eqb};
 ghost use Rattle.tables.specs.Read.{cell, wide_at, starts_at, values_at};
 ghost use Rattle.index.specs.Index.{node_at, Linked, OnChain};
@@ -11,7 +13,7 @@ ghost use Rattle.world.specs.World.{root_at, asked_at, EdgesHeld, TableHeld, row
 use rules::{FieldNo, TypeNo};
 
 // What a field is: of scalar type, a list of objects, or one object.
-#[derive(Drop)]
+#[derive(Clone, Copy)]
 pub enum FieldKind {
     Scalar,
     Objects,
@@ -19,7 +21,7 @@ pub enum FieldKind {
 }
 
 // What a property lookup finds: the row of the one property, or nothing.
-#[derive(Drop)]
+#[derive(Clone, Copy)]
 pub enum Property {
     Row(usize),
     Nothing,

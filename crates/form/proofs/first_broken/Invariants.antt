@@ -1,0 +1,14 @@
+-- `form::first_broken` meets its contract. The loop's invariant: the first broken line of the text is the first from the position
+-- on, whose line has the number `line`. The measure is what is left of the text. Assumes nothing.
+use Prim.Native.Nat.{◌+◌, ◌≤◌, ◌-◌}
+use native.Mathlib.Omega.{arith}
+use borrow.Author.Rules.{rules}
+use lib.ListN.{length}
+use Rattle.form.proofs.Breaking.{BrokenLeft, broken-start, broken-stop, broken-done, row_fits, line-turn-laws}
+use Rattle.form.proofs.first_broken.Given as goal
+
+abbrev pub invariant-loop-at : goal.invariant-loop-at
+invariant-loop-at l = BrokenLeft l.which l.s l.at l.line × (l.at ≤ length l.s) × (l.line ≤ l.at + 1)
+
+abbrev pub decreases-loop-at : goal.decreases-loop-at
+decreases-loop-at l = length l.s - l.at

@@ -1,0 +1,13 @@
+-- `graph::label_of` meets its contract. The loop's invariant: the first i numbers are copied. The measure is how many are left. Assumes nothing.
+use Prim.Native.Nat.{◌≤◌, ◌-◌}
+use mathlib.Core.Path.{◌≡◌}
+use lib.ListN.{length}
+use borrow.Author.Rules.{rules}
+use Rattle.graph.proofs.Copying.{Copied, from_row, copying}
+use Rattle.graph.proofs.label_of.Given as goal
+
+abbrev pub invariant-loop-i : goal.invariant-loop-i
+invariant-loop-i l = Copied (from_row l.nums) l.pairs l.i × ((l.i ≤ 8) × (length l.pairs ≡ 8))
+
+abbrev pub decreases-loop-i : goal.decreases-loop-i
+decreases-loop-i l = 8 - l.i

@@ -1,0 +1,8 @@
+-- `index::next_row` meets its contract. Assumes nothing.
+use borrow.Author.Rules.{rules}
+use Rattle.tables.specs.Read.{cell}
+use Rattle.index.proofs.next_row.Goals as goal
+
+pub returns : goal.returns
+unfolding cell
+returns c = c.led_to.ensures

@@ -1,0 +1,7 @@
+-- `schema::is_object` meets its contract. Assumes nothing.
+use borrow.Author.Rules.{rules}
+use Rattle.schema.proofs.Letters.{kind-laws}
+use Rattle.schema.proofs.is_object.Goals as goal
+
+pub returns : goal.returns
+returns c = search kind-laws

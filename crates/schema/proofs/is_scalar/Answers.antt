@@ -1,0 +1,7 @@
+-- `schema::is_scalar` meets its contract. Assumes nothing.
+use borrow.Author.Rules.{rules}
+use Rattle.schema.proofs.Letters.{kind-laws}
+use Rattle.schema.proofs.is_scalar.Goals as goal
+
+pub returns : goal.returns
+returns c = search kind-laws

@@ -1,0 +1,72 @@
+use Prim.Native.Nat.{◌-◌}
+use mathlib.Core.Logic.{⊎_elim}
+use mathlib.Core.Path.{sym, subst}
+use native.Mathlib.Omega.{arith}
+use borrow.Author.Tests.{not-false}
+use borrow.Author.Rules.{rules}
+use Rattle.tables.specs.Read.{cell}
+use Rattle.index.specs.Index.{head_in, next_in}
+use Rattle.schema.specs.Held.{Bucketed}
+use Rattle.schema.proofs.Searching.{lacks_at, lacks-first, lacks_other, lacks-not, lacks-laws}
+use Rattle.schema.proofs.Following.{Seeking, seek_less, seek_on, seek_bucket}
+use Rattle.schema.proofs.lacks_field.Goals as goal
+
+pub bounds-a-3 : goal.bounds-a-3
+bounds-a-3 c = search (lacks-laws, rules)
+
+pub overflow_cast-end : goal.overflow_cast-end
+unfolding cell
+overflow_cast-end c = search (lacks-laws, rules)
+
+pub first_row-j-requires : goal.first_row-j-requires
+unfolding Bucketed
+first_row-j-requires c = let k = c.requires.has_links in
+    record { at_in_bounds = k.long; at_bound = k.low; }
+
+pub loop-j-init : goal.loop-j-init
+unfolding cell Bucketed head_in
+loop-j-init c =
+    subst (Seeking _ _ _) (sym c.first_row-j.ensures)
+    (seek_bucket _ _ _ _ _ c.requires.has_links _ (λ k h. lacks-first _ _ _ k h))
+
+pub row_cell-requires : goal.row_cell-requires
+unfolding cell
+row_cell-requires c = search (lacks-laws, rules)
+
+pub row_cell-requires-then-row_cell-t : goal.row_cell-requires-then-row_cell-t
+unfolding cell
+row_cell-requires-then-row_cell-t c = search (lacks-laws, rules)
+
+pub has_field-requires : goal.has_field-requires
+has_field-requires c = search (lacks-laws, rules)
+
+pub returns-then-not-has_field : goal.returns-then-not-has_field
+unfolding cell
+returns-then-not-has_field c = search (lacks-laws, rules)
+
+pub next_row-j-requires : goal.next_row-j-requires
+unfolding cell Bucketed
+next_row-j-requires c =
+    let k = c.requires.has_links in
+    record { at_in_bounds = k.long; at_bound = k.low; j_bound = omega (arith, k.keyed.few, c.loop-j-test.true); }
+
+pub loop-j-smaller : goal.loop-j-smaller
+unfolding cell next_in
+loop-j-smaller c =
+    omega (arith, seek_less c.loop-j.invariant c.loop-j-test.true, c.next_row-j.ensures, c.loop-j-test.true)
+
+pub loop-j-preserved : goal.loop-j-preserved
+unfolding cell next_in
+loop-j-preserved c =
+    let v = c.loop-j.invariant in
+    let h = c.loop-j-test.true in
+    let f = c.row_cell.ensures in
+    let not = ⊎_elim
+    (λ w. lacks-not _ _ _ _ _ f _ _ w.0.true w.1.ensures w.2.ensures (not-false _ w.3.left))
+    (λ w. lacks_other _ _ _ _ _ f w.left)
+    c.if-row_cell-t.branch in
+    subst (Seeking _ _ _) (sym c.next_row-j.ensures) (seek_on v h not)
+
+pub returns : goal.returns
+unfolding cell
+returns c = search (lacks-laws, rules)

@@ -1,0 +1,30 @@
+-- `search::first_offence` meets its contract. The outer loop's invariant: the lines before `at` do not offend, and c counts them. The
+-- inner one's: the earlier lines before the j-th do not clash, and the j-th is one that is asked. The measures are the bytes and the earlier
+-- lines left. Assumes nothing.
+use Prim.Native.Nat.{◌-◌, ◌≤◌}
+use mathlib.Core.Path.{◌≡◌, refl, sym, ◌∙◌}
+use native.Mathlib.Omega.{arith}
+use borrow.Author.Rules.{rules}
+use lib.ListN.{length, get_or}
+use Rattle.rules.specs.Search.{spot, as_fault}
+use Rattle.rules.specs.declared.Fault.TheVariants.{Fine}
+use Rattle.schema.proofs.Searching.{left_found, left_ended}
+use Rattle.search.specs.Search.{Areas, areas, alone, Testable, Clashable, Stepping}
+use Rattle.search.proofs.Looping.{Going, going_start, going_ended, found-alone, found-clash, going_on, next-further}
+use Rattle.schema.proofs.Following.{seek_on, seek_less}
+use Rattle.search.proofs.Walking.{SeekingAt, seek_start, earlier-few}
+use Rattle.search.proofs.Asking.{searched, testable, stepping}
+use Rattle.search.proofs.Plainly.{values-most}
+use Rattle.search.proofs.first_offence.Given as goal
+
+abbrev pub invariant-loop-j : goal.invariant-loop-j
+invariant-loop-j l = (l.found ≡ spot 0 0) × SeekingAt l.check (areas l.a l.g l.p l.v) l.ix l.r l.end l.j
+
+abbrev pub decreases-loop-j : goal.decreases-loop-j
+decreases-loop-j l = l.end - l.j
+
+abbrev pub invariant-lines : goal.invariant-lines
+invariant-lines l = (l.found ≡ spot 0 0) × Going l.check l.s (areas l.a l.g l.p l.v) l.at l.c
+
+abbrev pub decreases-lines : goal.decreases-lines
+decreases-lines l = length l.s - l.at

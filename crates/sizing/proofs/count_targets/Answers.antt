@@ -1,0 +1,43 @@
+use Prim.Native.Nat.{◌-◌}
+use native.Mathlib.Omega.{arith}
+use borrow.Author.Rules.{rules}
+use Rattle.tables.specs.Read.{cell}
+use Rattle.world.specs.World.{asked_at}
+use Rattle.world.proofs.Targets.{edges-fewer, edge-node}
+use Rattle.sizing.proofs.Tallying.{Counted, counted_start, counted-few, counted_end, counted-on}
+use Rattle.sizing.proofs.count_targets.Goals as goal
+
+pub bounds-g-1 : goal.bounds-g-1
+unfolding cell
+bounds-g-1 c = search rules
+
+pub overflow_cast-m : goal.overflow_cast-m
+unfolding cell
+overflow_cast-m c = search rules
+
+pub loop-e-init : goal.loop-e-init
+loop-e-init c = counted_start _ _ _ 0 _ c.first_edge-e.ensures
+
+pub overflow_add-n : goal.overflow_add-n
+overflow_add-n c = omega (arith, counted-few _ _ _ _ _ c.loop-e.invariant, c.requires.edges_held.nodes.edges)
+
+pub edge_after-e-requires : goal.edge_after-e-requires
+unfolding cell
+edge_after-e-requires c =
+    let t = c.loop-e-test.true in
+    record { edges_held = c.requires.edges_held; query_held = c.requires.query_held; k_bound = c.requires.k_bound; e_bound = t; e_value = edge-node _ _ _ _ _ c.loop-e.invariant.first t; }
+
+pub loop-e-smaller : goal.loop-e-smaller
+unfolding cell
+loop-e-smaller c = edges-fewer _ _ _ _ _ c.loop-e-test.true c.edge_after-e.ensures
+
+pub loop-e-preserved : goal.loop-e-preserved
+unfolding cell
+loop-e-preserved c = counted-on _ _ _ _ _ _ c.loop-e-test.true c.edge_after-e.ensures c.loop-e.invariant
+
+pub returns : goal.returns
+unfolding cell
+returns c =
+    let inv = c.loop-e.invariant in
+    let held = c.requires.edges_held.nodes in
+    record { value = counted_end _ _ _ _ _ c.loop-e-test.false inv; upper_bound = omega (arith, counted-few _ _ _ _ _ inv, held.edges); }

@@ -1,0 +1,82 @@
+use Prim.Native.Nat.{◌+◌, ◌-◌, ◌≤◌}
+use mathlib.Core.Path.{◌≡◌, ◌∙◌}
+use mathlib.Core.Logic.{⊎_elim}
+use lib.ListN.{length}
+use Rattle.sizing.proofs.Rows.{zeroed-length}
+use Rattle.tables.specs.Read.{cell}
+use Rattle.world.specs.World.{next_at}
+use Rattle.sizing.proofs.Passing.{Passing, passing-none, passing-on, passing-by, passing-all, passed_on_lem, next_nodes}
+use native.Mathlib.Omega.{arith}
+use borrow.Author.Rules.{rules}
+use Rattle.sizing.proofs.pass_row.Goals as goal
+use Rattle.sizing.proofs.pass_row.Goals.{At-loop-u}
+
+-- the area at the loop's start is as long as it was
+same : (c : At-loop-u) → length c.zero_row.new.m ≡ length c.args.m.now
+unfolding cell
+same c = zeroed-length _ _ c.args.m.now _ c.zero_row.ensures c.requires.g_in_bounds
+
+room : (c : At-loop-u)
+    → c.args.b + cell c.args.g.now 0 ≤ length c.zero_row.new.m
+room c = omega (arith, same c, c.requires.g_in_bounds)
+
+pub overflow_cast-n : goal.overflow_cast-n
+unfolding cell
+overflow_cast-n c = search rules
+
+pub zero_row-requires : goal.zero_row-requires
+unfolding cell
+zero_row-requires c = search rules
+
+pub loop-u-init : goal.loop-u-init
+unfolding cell
+loop-u-init c =
+    passing-none _ _ _ _ c.args.m.now _ c.requires.g_bound c.requires.g_in_bounds c.zero_row.ensures
+
+pub overflow_cast-u : goal.overflow_cast-u
+unfolding cell
+overflow_cast-u c = search rules
+
+pub overflow_add-c : goal.overflow_add-c
+unfolding cell
+overflow_add-c c = search rules
+
+pub number_at-x-requires : goal.number_at-x-requires
+unfolding cell
+number_at-x-requires c = search rules
+
+pub pass_on-requires : goal.pass_on-requires
+unfolding cell
+pass_on-requires c =
+    let t = c.loop-u-test.true in
+    record { graph_held = c.requires.graph_held; query_held = c.requires.query_held; k_bound = c.requires.k_bound; u_bound = t; g_in_bounds = omega (arith, c.loop-u.invariant.same, room (goal.at.pass_on-requires c).At-loop-u); }
+
+pub overflow_add-u : goal.overflow_add-u
+unfolding cell
+overflow_add-u c = search rules
+
+pub loop-u-smaller : goal.loop-u-smaller
+unfolding cell
+loop-u-smaller c = search rules
+
+pub loop-u-preserved : goal.loop-u-preserved
+unfolding cell
+loop-u-preserved c =
+    let t = c.loop-u-test.true in
+    let x = c.number_at-x.ensures in
+    let low = c.requires.g_bound in
+    let nodes = next_nodes _ _ _ _ _ c.requires.graph_held.edges t in
+    ⊎_elim
+    (λ w. passing-on _ _ _ _ _ low (room (goal.at.loop-u-preserved c).At-loop-u) _ _ c.loop-u.invariant t _ x _ nodes (w.5 ∙ w.2.ensures))
+    (λ w. passing-by _ _ _ _ _ low (room (goal.at.loop-u-preserved c).At-loop-u) _ _ c.loop-u.invariant t _ x _ w.0.left w.1)
+    c.if-x-gt0.branch
+
+pub shape_of-m : goal.shape_of-m
+shape_of-m c = c.loop-u.invariant.same ∙ same (goal.at.shape_of-m c).At-loop-u
+
+pub returns : goal.returns
+unfolding cell
+returns c =
+    let z = c.zero_row.ensures in
+    passed_on_lem _ _ _ _ _ _ _ _
+    (passing-all _ _ _ _ c.args.m.now _ c.requires.g_bound c.requires.g_in_bounds z _ _ c.loop-u.invariant c.loop-u-test.false)

@@ -1,0 +1,16 @@
+-- `sizing::push_targets` meets its contract. The loop's invariant: what is left to add makes the whole. Assumes nothing.
+use Prim.Native.Nat.{◌+◌, ◌-◌, ◌<◌}
+use lib.ListN.{length}
+use Rattle.tables.specs.Read.{cell}
+use Rattle.world.specs.World.{asked_at}
+use Rattle.world.proofs.Targets.{edges-fewer, edge-node}
+use Rattle.sizing.proofs.Passing.{Adding, adding_start, adding_on, adding_end}
+use native.Mathlib.Omega.{arith}
+use borrow.Author.Rules.{rules}
+use Rattle.sizing.proofs.push_targets.Given as goal
+
+abbrev pub invariant-loop-e : goal.invariant-loop-e
+invariant-loop-e l = Adding l.g l.u (asked_at l.q l.k) l.b l.x l.initial.m l.m l.e
+
+abbrev pub decreases-loop-e : goal.decreases-loop-e
+decreases-loop-e l = cell l.g 1 - l.e

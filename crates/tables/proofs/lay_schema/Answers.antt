@@ -1,0 +1,14 @@
+-- `tables::lay_schema` meets its contract. Assumes nothing.
+use native.Mathlib.Omega.{arith}
+use Rattle.tables.proofs.Laying.{schema-laid}
+use borrow.Author.Rules.{rules}
+use Rattle.tables.proofs.lay_schema.Goals as goal
+
+pub fill_schema-c-requires : goal.fill_schema-c-requires
+fill_schema-c-requires c =
+    record { s_len_bound = c.requires.s_len_bound; each = c.requires.each; schema_fits = c.requires.schema_fits; in_bounds = omega (arith, c.requires.in_bounds, c.clear.auto.area); }
+
+pub returns : goal.returns
+returns c =
+    let e = c.fill_schema-c.ensures in
+    schema-laid _ _ _ _ _ _ c.clear.ensures e.1 c.put_head.ensures e.0

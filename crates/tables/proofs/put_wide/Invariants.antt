@@ -1,0 +1,16 @@
+-- `tables::put_wide` meets its contract. The loop's invariant: the first i numbers are laid behind the two cells. Assumes nothing.
+use Prim.Native.Nat.{◌+◌, ◌-◌, ◌≤◌}
+use mathlib.Core.Path.{◌≡◌, refl, sym, ◌∙◌}
+use native.Mathlib.Omega.{arith}
+use borrow.Author.Rules.{rules}
+use lib.ListN.{length, take, length-set}
+use Rattle.tables.specs.Layout.{laid}
+use Rattle.tables.proofs.Stores.{next-stored, wide-stored}
+use Rattle.tables.proofs.Laid.{laid_nil}
+use Rattle.tables.proofs.put_wide.Given as goal
+
+abbrev pub invariant-loop-i : goal.invariant-loop-i
+invariant-loop-i l = (l.area ≡ laid (l.place + 2) (take l.i l.nums) l.initial.area) × (l.i ≤ 12) × (length l.area ≡ length l.initial.area)
+
+abbrev pub decreases-loop-i : goal.decreases-loop-i
+decreases-loop-i l = 12 - l.i

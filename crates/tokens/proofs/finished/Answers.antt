@@ -1,0 +1,6 @@
+-- `tokens::finished` meets its contract: only where a field could follow. Assumes nothing.
+use borrow.Author.Rules.{rules}
+use Rattle.tokens.proofs.finished.Goals as goal
+
+pub returns-in-Fields : goal.returns-in-Fields
+returns-in-Fields c = rw c.enum_told-1.given.1

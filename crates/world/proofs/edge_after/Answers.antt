@@ -1,0 +1,26 @@
+-- `world::edge_after` meets its contract: the node's chain is entered behind one of its edges. Assumes nothing.
+use native.Mathlib.Omega.{arith}
+use mathlib.Core.Path.{sym, ◌∙◌}
+use borrow.Author.Rules.{rules}
+use Rattle.tables.specs.Read.{cell}
+use Rattle.index.proofs.Chains.{next-on}
+use Rattle.world.specs.World.{edge_from}
+use Rattle.world.proofs.Targets.{nodes_table, next-rows}
+use Rattle.world.proofs.edge_after.Goals as goal
+
+pub overflow_cast-n : goal.overflow_cast-n
+unfolding cell
+overflow_cast-n c = omega (arith, c.requires.edges_held.nodes.edges)
+
+pub row_along-requires : goal.row_along-requires
+unfolding cell
+row_along-requires c =
+    let e = c.requires.edges_held in
+    let o = c.requires.1.1.1 in
+    record { table_held = nodes_table _ e.nodes; linked = e.links; query_held = c.requires.query_held; k_bound = c.requires.k_bound; on_chain = next-on _ _ _ _ e.links _ _ o.0 o.1 _ c.next_row.ensures; }
+
+pub returns : goal.returns
+unfolding edge_from cell
+returns c =
+    let o = c.requires.1.1.1 in
+    c.row_along.ensures ∙ sym (next-rows _ _ _ _ _ c.requires.edges_held.links _ _ o.0 o.1 _ c.next_row.ensures _)

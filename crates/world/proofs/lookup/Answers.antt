@@ -1,0 +1,37 @@
+-- `world::lookup` meets its contract: the properties are a table, entered at the head of the node's chain. Assumes nothing.
+use native.Mathlib.Omega.{arith}
+use mathlib.Core.Path.{◌≡◌}
+use borrow.Author.Rules.{rules}
+use Rattle.tables.specs.Read.{cell}
+use Rattle.index.proofs.Chains.{head-on}
+use Rattle.world.specs.World.{asked_at, row_from}
+use Rattle.world.proofs.Targets.{head_rows}
+use Rattle.world.proofs.Reading.{lookup_row, lookup_none}
+use Rattle.world.proofs.lookup.Goals as goal
+use Rattle.world.proofs.lookup.Goals.{After-row_along-j}
+
+-- what the walk found is the first of all rows
+found : (c : After-row_along-j)
+    → c.row_along-j.result
+    ≡ row_from c.args.p.now 8 (cell c.args.p.now 0) c.args.u
+    (asked_at c.args.q.now c.args.k) 0
+unfolding cell
+found c =
+    head_rows _ _ _ _ _ c.requires.linked _ _ c.first_row.ensures _ _ c.row_along-j.ensures
+
+pub overflow_cast-n : goal.overflow_cast-n
+unfolding cell
+overflow_cast-n c = omega (arith, c.requires.table_held.few)
+
+pub row_along-j-requires : goal.row_along-j-requires
+unfolding cell
+row_along-j-requires c =
+    record { table_held = c.requires.table_held; linked = c.requires.linked; query_held = c.requires.query_held; k_bound = c.requires.k_bound; on_chain = head-on _ _ _ _ c.requires.linked _ _ c.first_row.ensures; }
+
+pub returns-then-j-n : goal.returns-then-j-n
+unfolding cell
+returns-then-j-n c = lookup_row _ _ _ _ (found (goal.at.returns-then-j-n c).After-row_along-j) c.if-j-n.true
+
+pub returns : goal.returns
+unfolding cell
+returns c = lookup_none _ _ _ _ (found (goal.at.returns c).After-row_along-j) (omega arith)

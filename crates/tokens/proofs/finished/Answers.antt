@@ -3,4 +3,4 @@ use borrow.Author.Rules.{rules}
 use Rattle.tokens.proofs.finished.Goals as goal
 
 pub returns-in-Fields : goal.returns-in-Fields
-returns-in-Fields c = rw c.enum_told-1.given.1
+returns-in-Fields c = rw c.in-Fields.is

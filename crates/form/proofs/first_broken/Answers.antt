@@ -9,7 +9,9 @@ pub loop-at-init : goal.loop-at-init
 loop-at-init c = (broken-start c.args.which c.args.s.now, omega arith, omega arith)
 
 pub line_fault-f-requires : goal.line_fault-f-requires
-line_fault-f-requires c = ?
+line_fault-f-requires c =
+    let fits = row_fits _ _ _ c.loop-at-test.true c.read_row-r.ensures c.requires in
+    record { nums_len = fits.0; bad_bound = fits.1 }
 
 pub returns-in-Field : goal.returns-in-Field
 returns-in-Field c = search broken-stop

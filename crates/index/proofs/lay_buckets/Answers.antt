@@ -30,7 +30,7 @@ pub loop-j-preserved : goal.loop-j-preserved
 loop-j-preserved c =
     let l = c.loop-j in (
       keys_on _ _ _ _ (buckets_keyed _ _ _ c.requires.few) c.requires.blank _ _ _ l.invariant.0 (omega arith) _
-          (bucket_read _ _ _ _ _ _ _ _ _ c.requires l.invariant.0 (omega arith) c.row_cell-first.ensures) _ c.Link-row.ensures,
+          (bucket_read _ _ _ _ _ _ _ _ _ c.requires l.invariant.0 (omega arith) c.row_cell-first.ensures) _ c.link_row.ensures,
       omega arith,
     )
 

@@ -32,7 +32,7 @@ pub loop-j-preserved : goal.loop-j-preserved
 unfolding wide_at
 loop-j-preserved c =
     let l = c.loop-j in (
-      keys_on _ _ _ _ c.requires.rowed.nodes c.requires.blank _ _ _ l.invariant.0 (omega arith) _ c.row_cell-node.ensures _ c.Link-row.ensures,
+      keys_on _ _ _ _ c.requires.rowed.nodes c.requires.blank _ _ _ l.invariant.0 (omega arith) _ c.row_cell-node.ensures _ c.link_row.ensures,
       omega arith,
     )
 

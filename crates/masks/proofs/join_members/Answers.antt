@@ -10,15 +10,11 @@ use Rattle.masks.proofs.Joining.{join-turn, members_length, members_front, still
 use Rattle.masks.proofs.join_members.Goals as goal
 use Rattle.masks.proofs.join_members.Goals.{At-loop-j}
 
--- the start, from a turn of the loop
-abbrev Turning : Type 0
-Turning = At-loop-j
-
-same : (c : Turning) → length c.loop-j.a ≡ length c.args.a.now
+same : (c : At-loop-j) → length c.loop-j.a ≡ length c.args.a.now
 same c = ap length c.loop-j.invariant.0 ∙ members_length c.args.a.now c.loop-j.j
 
 -- the count stands as it stood
-same_count : (c : Turning) → cell c.loop-j.a member_count ≡ cell c.args.a.now member_count
+same_count : (c : At-loop-j) → cell c.loop-j.a member_count ≡ cell c.args.a.now member_count
 same_count c =
     ap (λ (a : List ℕ). cell a member_count) c.loop-j.invariant.0 ∙ members_front c.args.a.now c.loop-j.j member_count (omega arith)
 
@@ -36,7 +32,7 @@ loop-j-init c = (refl, omega arith)
 pub join_member-requires : goal.join_member-requires
 unfolding cell
 join_member-requires c =
-    let count = same_count c in
+    let count = same_count (goal.at.join_member-requires c).At-loop-j in
     record { joinable = still_joinable c.args.a.now c.loop-j.a c.loop-j.j c.requires c.loop-j.invariant.0; j_bound = omega (arith, c.loop-j-test.true); }
 
 pub overflow_add-j : goal.overflow_add-j

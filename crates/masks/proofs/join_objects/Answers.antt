@@ -9,11 +9,7 @@ use Rattle.masks.proofs.Joining.{join-turn, objects-length}
 use Rattle.masks.proofs.join_objects.Goals as goal
 use Rattle.masks.proofs.join_objects.Goals.{At-loop-t}
 
--- the start, from a turn of the loop
-abbrev Turning : Type 0
-Turning = At-loop-t
-
-same : (c : Turning) → length c.loop-t.a ≡ length c.args.a.now
+same : (c : At-loop-t) → length c.loop-t.a ≡ length c.args.a.now
 same c = ap length c.loop-t.invariant.0 ∙ objects-length c.args.a.now c.loop-t.t
 
 pub loop-t-init : goal.loop-t-init
@@ -23,7 +19,7 @@ loop-t-init c = (refl, omega arith)
 pub join_object-requires : goal.join_object-requires
 unfolding cell
 join_object-requires c =
-    record { schema_needed_in_bounds = omega (arith, same c, c.requires.schema_needed_in_bounds); t_bound = omega (arith, c.requires.type_count_bound, c.loop-t-test.true); }
+    record { schema_needed_in_bounds = omega (arith, same (goal.at.join_object-requires c).At-loop-t, c.requires.schema_needed_in_bounds); t_bound = omega (arith, c.requires.type_count_bound, c.loop-t-test.true); }
 
 pub overflow_add-t : goal.overflow_add-t
 unfolding cell

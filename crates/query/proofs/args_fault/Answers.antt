@@ -49,10 +49,9 @@ loop-i-smaller c = search (arg_laws, rules)
 
 pub loop-i-preserved : goal.loop-i-preserved
 loop-i-preserved c =
-    let held = c.requires.1 in
     let inv = c.loop-i.invariant in
-    let passes = not-false _ c.if-not-arg_passes.false in
-    let on = args-on _ _ _ _ _ _ _ _ held.0 held.1 inv.2 c.loop-i-test.true inv.0
+    let passes = c.if-not-arg_passes.false in
+    let on = args-on _ _ _ _ _ _ _ _ c.requires.query_held c.requires.k_bound inv.2 c.loop-i-test.true inv.0
     c.entry_cell.ensures c.arg_passes.ensures passes in
     (on, omega arith, search rules, omega arith)
 

@@ -71,7 +71,7 @@ unfolding cell
 loop-k-preserved c =
     let on = reached-on _ _ _ _ _ _ c.loop-k.invariant.0 c.requires.query_held c.loop-k-test.true
     _ c.entry_cell-d.ensures _ c.entry_fault-f.ensures
-    _ _ c.enum_told-1.given.1 c.hands_down.ensures c.put_below.ensures in
+    _ _ c.in_default.is c.hands_down.ensures c.put_below.ensures in
     (on, omega arith)
 
 pub returns : goal.returns

@@ -16,11 +16,9 @@ pub row_along-requires : goal.row_along-requires
 unfolding cell
 row_along-requires c =
     let e = c.requires.edges_held in
-    let o = c.requires.1.1.1 in
-    record { table_held = nodes_table _ e.nodes; linked = e.links; query_held = c.requires.query_held; k_bound = c.requires.k_bound; on_chain = next-on _ _ _ _ e.links _ _ o.0 o.1 _ c.next_row.ensures; }
+    record { table_held = nodes_table _ e.nodes; linked = e.links; query_held = c.requires.query_held; k_bound = c.requires.k_bound; on_chain = next-on _ _ _ _ e.links _ _ c.requires.e_bound c.requires.e_value _ c.next_row.ensures; }
 
 pub returns : goal.returns
 unfolding edge_from cell
 returns c =
-    let o = c.requires.1.1.1 in
-    c.row_along.ensures ∙ sym (next-rows _ _ _ _ _ c.requires.edges_held.links _ _ o.0 o.1 _ c.next_row.ensures _)
+    c.row_along.ensures ∙ sym (next-rows _ _ _ _ _ c.requires.edges_held.links _ _ c.requires.e_bound c.requires.e_value _ c.next_row.ensures _)

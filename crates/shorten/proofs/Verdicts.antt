@@ -71,14 +71,11 @@ unchanged f (R, h) = says-yes (R, R, h, h, enough)
 
 -- ---- the ways through `judge`: a and b are what was told of the two sequences, m what was told of both
 
-pub told : {P : Type 0} {b : Bool} → (b ≡ true) ↔ P → not b ≡ false → P
-told {P} {b} tells p = tells.0 (not-false b p)
+pub told : {P : Type 0} {b : Bool} → (b ≡ true) ↔ P → b ≡ true → P
+told tells p = tells.0 p
 
 pub denied : {P : Type 0} {b : Bool} → (b ≡ true) ↔ P → b ≡ false → P → ⊥
 denied tells p h = clash (tells.1 h) p
-
-pub not-told : {P : Type 0} {b : Bool} → (b ≡ true) ↔ P → not b ≡ true → P → ⊥
-not-told {P} {b} tells p = denied tells (not-true b p)
 
 pub answers : {f s : List ℕ} {r a : Reply} → r ≡ a → Judged f s a → Judged f s r
 answers {f} {s} e j = subst (Judged f s) (sym e) j

@@ -52,7 +52,7 @@ pub loop-i-preserved : goal.loop-i-preserved
 loop-i-preserved c =
     (
       declared_on _ _ _ _ c.loop-i.invariant.0 c.loop-i-test.true c.requires.nums_bound c.requires.nums_len
-          c.declared_arg.ensures (not-false _ c.if-not-declared_arg.false),
+          c.declared_arg.ensures c.if-not-declared_arg.false,
       omega arith,
     )
 

@@ -72,7 +72,7 @@ overflow_cast-result-then-not-in_range c = search (taking, rules)
 pub returns-then-not-in_range : goal.returns-then-not-in_range
 returns-then-not-in_range c =
     taken-beyond _ _ _ _ _ _ _ c.loop-i.invariant.0 c.loop-i-test.true c.requires.nums_bound c.requires.nums_len c.takes_arg.ensures
-    (not-false _ c.if-not-takes_arg.false) c.arg_type.ensures c.in_range.ensures (not-true _ c.if-not-in_range.true)
+    c.if-not-takes_arg.false c.arg_type.ensures c.in_range.ensures c.if-not-in_range.true
 
 pub overflow_add-i-in-loop-i : goal.overflow_add-i-in-loop-i
 overflow_add-i-in-loop-i c = search (taking, rules)
@@ -84,7 +84,7 @@ pub loop-i-preserved : goal.loop-i-preserved
 loop-i-preserved c =
     (
       taken-on _ _ _ _ _ _ _ c.loop-i.invariant.0 c.loop-i-test.true c.requires.nums_bound c.requires.nums_len c.takes_arg.ensures
-          (not-false _ c.if-not-takes_arg.false) c.arg_type.ensures c.in_range.ensures (not-false _ c.if-not-in_range.false),
+          c.if-not-takes_arg.false c.arg_type.ensures c.in_range.ensures c.if-not-in_range.false,
       omega arith,
     )
 

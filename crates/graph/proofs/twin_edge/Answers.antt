@@ -4,10 +4,6 @@ use borrow.Author.Rules.{rules}
 use Rattle.graph.proofs.Copying.{edges}
 use Rattle.graph.proofs.twin_edge.Goals as goal
 
-pub starts_at-requires : goal.starts_at-requires
-starts_at-requires c =
-    (omega arith, (omega arith, (omega arith, (c.requires.nodes_held.pairs c.args.j c.requires.j_bound, search rules))))
-
 pub returns-then-wide_at-nums : goal.returns-then-wide_at-nums
 returns-then-wide_at-nums c = search (edges, rules)
 

@@ -66,7 +66,7 @@ pub returns-then-not-in_range : goal.returns-then-not-in_range
 returns-then-not-in_range c =
     let i = c.loop-i.invariant in
     values-broken _ _ _ _ _ _ _ _ _ _ i.0 c.loop-i-test.true i.1.0 i.1.1 c.requires.le_from c.in_range.ensures
-    (not-true _ c.if-not-in_range.true)
+    c.if-not-in_range.true
 
 pub overflow_add-i : goal.overflow_add-i
 overflow_add-i c = search (valuing, rules)
@@ -78,7 +78,7 @@ pub loop-i-preserved : goal.loop-i-preserved
 loop-i-preserved c =
     let i = c.loop-i.invariant in (
       values-on _ _ _ _ _ _ _ _ _ _ i.0 c.loop-i-test.true i.1.0 i.1.1 c.in_range.ensures
-          (not-false _ c.if-not-in_range.false),
+          c.if-not-in_range.false,
       (omega arith, i.1.1),
     )
 

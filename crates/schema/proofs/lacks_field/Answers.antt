@@ -10,6 +10,7 @@ use Rattle.schema.specs.Held.{Bucketed}
 use Rattle.schema.proofs.Searching.{lacks_at, lacks-first, lacks_other, lacks-not, lacks-laws}
 use Rattle.schema.proofs.Following.{Seeking, seek_less, seek_on, seek_bucket}
 use Rattle.schema.proofs.lacks_field.Goals as goal
+use Rattle.schema.proofs.lacks_field.Goals.{then-row_cell-t+else-not-has_field, else-row_cell-t}
 
 pub bounds-a-3 : goal.bounds-a-3
 bounds-a-3 c = search (lacks-laws, rules)
@@ -61,11 +62,11 @@ loop-j-preserved c =
     let v = c.loop-j.invariant in
     let h = c.loop-j-test.true in
     let f = c.row_cell.ensures in
-    let not = ⊎_elim
-    (λ w. lacks-not _ _ _ _ _ f _ _ w.0.true w.1.ensures w.2.ensures (not-false _ w.3.left))
-    (λ w. lacks_other _ _ _ _ _ f w.left)
-    c.if-row_cell-t.branch in
-    subst (Seeking _ _ _) (sym c.next_row-j.ensures) (seek_on v h not)
+    subst (Seeking _ _ _) (sym c.next_row-j.ensures) (seek_on v h
+    (elim c.if-row_cell-t.branch [
+      then-row_cell-t+else-not-has_field w ↦
+        lacks-not _ _ _ _ _ f _ _ w.if-row_cell-t.true w.row_cell-then-row_cell-t.ensures w.has_field.ensures w.if-not-has_field.false
+    | else-row_cell-t w ↦ lacks_other _ _ _ _ _ f w.if-row_cell-t.false ]))
 
 pub returns : goal.returns
 unfolding cell

@@ -1,16 +1,16 @@
 -- `shorten::judge` meets its contract: what was told of the two sequences, and of both, on each way. Assumes nothing.
 use Rattle.shorten.specs.Judge.{says-yes, says_no, refuses-first, refuses-second}
-use Rattle.shorten.proofs.Verdicts.{told, denied, not-told, answers}
+use Rattle.shorten.proofs.Verdicts.{told, denied, answers}
 use borrow.Author.Rules.{rules}
 use Rattle.shorten.proofs.judge.Goals as goal
 
 pub returns-then-not-is_response : goal.returns-then-not-is_response
-returns-then-not-is_response c = answers c.reply.ensures (refuses-first (not-told c.is_response.ensures c.if-not-is_response.true))
+returns-then-not-is_response c = answers c.reply.ensures (refuses-first (denied c.is_response.ensures c.if-not-is_response.true))
 
 pub returns-then-not-is_response-2 : goal.returns-then-not-is_response-2
 returns-then-not-is_response-2 c =
     answers c.reply-then-not-is_response-2.ensures
-    (refuses-second (told c.is_response.ensures c.if-not-is_response.false) (not-told c.is_response-2.ensures c.if-not-is_response-2.true))
+    (refuses-second (told c.is_response.ensures c.if-not-is_response.false) (denied c.is_response-2.ensures c.if-not-is_response-2.true))
 
 pub made_from-requires : goal.made_from-requires
 made_from-requires c =

@@ -4,12 +4,12 @@ use borrow.Author.Rules.{rules}
 use Rattle.shorten.proofs.on_opener.Goals as goal
 
 pub returns-then-not-hit : goal.returns-then-not-hit
-returns-then-not-hit c = rw (not-true c.args.hit c.if-not-hit.true) c.standing.ensures
+returns-then-not-hit c = rw c.if-not-hit.true c.standing.ensures
 
 pub returns-then-w-lt-MOST_BRACKETS : goal.returns-then-w-lt-MOST_BRACKETS
 returns-then-w-lt-MOST_BRACKETS c =
-    rw (not-false c.args.hit c.if-not-hit.false, lt-ltb _ _ c.if-w-lt-MOST_BRACKETS.true) c.standing-then-w-lt-MOST_BRACKETS.ensures
+    rw (c.if-not-hit.false, lt-ltb _ _ c.if-w-lt-MOST_BRACKETS.true) c.standing-then-w-lt-MOST_BRACKETS.ensures
 
 pub returns : goal.returns
 returns c =
-    rw (not-false c.args.hit c.if-not-hit.false, le-ltb _ _ c.if-w-lt-MOST_BRACKETS.false) c.standing-2.ensures
+    rw (c.if-not-hit.false, le-ltb _ _ c.if-w-lt-MOST_BRACKETS.false) c.standing-2.ensures

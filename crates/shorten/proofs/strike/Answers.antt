@@ -7,9 +7,9 @@ use borrow.Author.Rules.{rules}
 use Rattle.shorten.proofs.strike.Goals as goal
 
 pub returns-in-Opener : goal.returns-in-Opener
-returns-in-Opener c = rw c.enum_told-in-Opener-1.given.1 (omega arith)
+returns-in-Opener c = rw c.in-Opener.is (omega arith)
 
 pub returns-in-Closer : goal.returns-in-Closer
 returns-in-Closer c =
-    rw c.enum_told-in-Closer-1.given.1
+    rw c.in-Closer.is
     (c.settle-in-Closer.ensures ∙ ap settled c.one_less.ensures ∙ closer_settled c.args.k)

@@ -23,7 +23,13 @@ overflow_add-n c = let few = opens-few c.args.n c.requires in search rules
 pub first_offence-c-requires : goal.first_offence-c-requires
 first_offence-c-requires c =
     let plain = form-plain c.args.n c.requires c.args.s.now c.if-s-gt65535.false c.first_broken-b.ensures c.if-b-gt0.false in
-    record { searched_for = opens-searched c.args.n c.requires; s_len_bound = c.if-s-gt65535.false; each = plain; ready = opens-ready c.args.n c.requires _ _; index_ready = opens-not_indexed c.args.n c.requires _ _ _; }
+    record {
+      searched_for = opens-searched c.args.n c.requires;
+      s_len_bound = c.if-s-gt65535.false;
+      each = plain;
+      ready = opens-ready c.args.n c.requires _ _;
+      index_ready = opens-not_indexed c.args.n c.requires _ _ _;
+    }
 
 pub overflow_add-n-then-c-gt0 : goal.overflow_add-n-then-c-gt0
 overflow_add-n-then-c-gt0 c = let few = opens-few c.args.n c.requires in search rules

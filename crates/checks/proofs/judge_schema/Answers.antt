@@ -12,15 +12,14 @@ open-text : (c : Else-b-ne0) → Opened 10 c.args.s.now
 open-text c = opened 10 opens_10 _ c.judge_form-b.ensures c.if-b-ne0.false
 
 -- the area is laid out, and its rows are judged
-judged-rows : (c : After-judge_schema_rows-c) → let form = c in
-    RowsJudged form.args.s.now (length form.args.a.now) c.lay_schema.last.1.0 form.judge_form-b.result
-    c.judge_schema_rows-c.result
+judged-rows : (c : After-judge_schema_rows-c)
+    → RowsJudged c.args.s.now (length c.args.a.now) c.lay_schema.new.a c.judge_form-b.result c.judge_schema_rows-c.result
 judged-rows c =
     record {
       form = c.judge_form-b.ensures;
       kept = c.if-b-ne0.false;
       room = c.requires;
-      c = c.lay_schema.ensures;
+      laid = c.lay_schema.ensures;
       is = c.judge_schema_rows-c.ensures;
     }
 
@@ -34,12 +33,21 @@ returns-then-b-ne0 c =
 pub lay_schema-requires : goal.lay_schema-requires
 lay_schema-requires c =
     let text = open-text (goal.at.lay_schema-requires c).Else-b-ne0 in
-    record { s_len_bound = text.short; each = text.plain; schema_fits = fits_11 c.args.s.now text; links_end_in_bounds = search rules; }
+    record {
+      s_len_bound = text.short;
+      each = text.plain;
+      schema_fits = fits_11 c.args.s.now text;
+      links_end_in_bounds = search rules;
+    }
 
 pub judge_schema_rows-c-requires : goal.judge_schema_rows-c-requires
 judge_schema_rows-c-requires c =
     let text = open-text (goal.at.judge_schema_rows-c-requires c).Else-b-ne0 in
-    record { s_len_bound = text.short; each = text.plain; schema_ready = laid-ready c.args.s.now _ _ c.requires text c.lay_schema.ensures; }
+    record {
+      s_len_bound = text.short;
+      each = text.plain;
+      schema_ready = laid-ready c.args.s.now _ _ c.requires text c.lay_schema.ensures;
+    }
 
 pub returns-then-c-ne0 : goal.returns-then-c-ne0
 returns-then-c-ne0 c = refused-rows (judged-rows (goal.at.returns-then-c-ne0 c).After-judge_schema_rows-c) c.if-c-ne0.true

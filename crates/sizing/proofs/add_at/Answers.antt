@@ -1,5 +1,4 @@
 -- `sizing::add_at` meets its contract. Assumes nothing.
-use borrow.Author.Rules.{rules}
 use Rattle.sizing.proofs.add_at.Goals as goal
 
 pub returns : goal.returns

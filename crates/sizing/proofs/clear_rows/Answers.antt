@@ -1,6 +1,5 @@
 -- `sizing::clear_rows` meets its contract. Assumes nothing.
 use Rattle.sizing.proofs.Rows.{zeroed-whole}
-use borrow.Author.Rules.{rules}
 use Rattle.sizing.proofs.clear_rows.Goals as goal
 
 pub returns : goal.returns

@@ -1,10 +1,8 @@
-use Prim.Native.Nat.{◌-◌}
 use native.Mathlib.Omega.{arith}
 use borrow.Author.Rules.{rules}
 use Rattle.tables.specs.Read.{cell}
-use Rattle.world.specs.World.{asked_at}
 use Rattle.world.proofs.Targets.{edges-fewer, edge-node}
-use Rattle.sizing.proofs.Tallying.{Counted, counted_start, counted-few, counted_end, counted-on}
+use Rattle.sizing.proofs.Tallying.{counted_start, counted-few, counted_end, counted-on}
 use Rattle.sizing.proofs.count_targets.Goals as goal
 
 pub bounds-g-1 : goal.bounds-g-1
@@ -25,7 +23,13 @@ pub edge_after-e-requires : goal.edge_after-e-requires
 unfolding cell
 edge_after-e-requires c =
     let t = c.loop-e-test.true in
-    record { edges_held = c.requires.edges_held; query_held = c.requires.query_held; k_bound = c.requires.k_bound; e_bound = t; e_value = edge-node _ _ _ _ _ c.loop-e.invariant.first t; }
+    record {
+      edges_held = c.requires.edges_held;
+      query_held = c.requires.query_held;
+      k_bound = c.requires.k_bound;
+      e_bound = t;
+      e_value = edge-node _ _ _ _ _ c.loop-e.invariant.first t;
+    }
 
 pub loop-e-smaller : goal.loop-e-smaller
 unfolding cell
@@ -40,4 +44,7 @@ unfolding cell
 returns c =
     let inv = c.loop-e.invariant in
     let held = c.requires.edges_held.nodes in
-    record { value = counted_end _ _ _ _ _ c.loop-e-test.false inv; upper_bound = omega (arith, counted-few _ _ _ _ _ inv, held.edges); }
+    record {
+      value = counted_end _ _ _ _ _ c.loop-e-test.false inv;
+      upper_bound = omega (arith, counted-few _ _ _ _ _ inv, held.edges);
+    }

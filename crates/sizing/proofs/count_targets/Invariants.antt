@@ -1,11 +1,8 @@
 -- `sizing::count_targets` meets its contract. The loop's invariant: the targets counted and those from edge e on are all. Assumes nothing.
 use Prim.Native.Nat.{◌-◌}
-use native.Mathlib.Omega.{arith}
-use borrow.Author.Rules.{rules}
 use Rattle.tables.specs.Read.{cell}
 use Rattle.world.specs.World.{asked_at}
-use Rattle.world.proofs.Targets.{edges-fewer, edge-node}
-use Rattle.sizing.proofs.Tallying.{Counted, counted_start, counted-few, counted_end, counted-on}
+use Rattle.sizing.proofs.Tallying.{Counted}
 use Rattle.sizing.proofs.count_targets.Given as goal
 
 abbrev pub invariant-loop-e : goal.invariant-loop-e

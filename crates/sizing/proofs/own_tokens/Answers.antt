@@ -10,19 +10,25 @@ returns-then-entry_cell-ne70 c = own_on _ _ _ _ _ _ _ (λ e. c.if-entry_cell-ne7
 
 pub value_tokens-requires : goal.value_tokens-requires
 value_tokens-requires c =
-    (c.requires.world_held.properties, (c.requires.world_held.values, (c.requires.world_held.own, c.requires.1)))
+    record {
+      properties_held = c.requires.world_held.properties;
+      v_len_bound = c.requires.world_held.values;
+      linked = c.requires.world_held.own;
+      query_held = c.requires.query_held;
+      k_bound = c.requires.k_bound;
+    }
 
 pub returns-in-Scalar : goal.returns-in-Scalar
 returns-in-Scalar c =
     let is = sym c.entry_cell.ensures ∙ c.if-entry_cell-ne70.false in
     let shapes = c.shape-kind.ensures in
-    c.value_tokens.ensures ∙ own_scalar _ _ _ _ _ _ _ is _ _ c.entry_cell-2.ensures shapes c.enum_told-1.given.1
+    c.value_tokens.ensures ∙ own_scalar _ _ _ _ _ _ _ is _ _ c.entry_cell-2.ensures shapes c.in-Scalar.is
 
 pub returns-in-Objects : goal.returns-in-Objects
 returns-in-Objects c =
     let is = sym c.entry_cell.ensures ∙ c.if-entry_cell-ne70.false in
     let shapes = c.shape-kind.ensures in
-    own-objects _ _ _ _ _ _ _ is _ _ c.entry_cell-2.ensures shapes c.enum_told-in-Objects-1.given.1 _ c.count_targets.ensures.value
+    own-objects _ _ _ _ _ _ _ is _ _ c.entry_cell-2.ensures shapes c.in-Objects.is _ c.count_targets.ensures.value
 
 pub overflow_cast-g : goal.overflow_cast-g
 unfolding cell
@@ -33,11 +39,11 @@ unfolding cell
 returns-then-first_edge-g c =
     let is = sym c.entry_cell.ensures ∙ c.if-entry_cell-ne70.false in
     let shapes = c.shape-kind.ensures in
-    own-some _ _ _ _ _ _ _ is _ _ c.entry_cell-2.ensures shapes c.enum_told-in-Object-1.given.1 _ c.first_edge.ensures c.if-first_edge-g.true
+    own-some _ _ _ _ _ _ _ is _ _ c.entry_cell-2.ensures shapes c.in-Object.is _ c.first_edge.ensures c.if-first_edge-g.true
 
 pub returns-in-Object : goal.returns-in-Object
 unfolding cell
 returns-in-Object c =
     let is = sym c.entry_cell.ensures ∙ c.if-entry_cell-ne70.false in
     let shapes = c.shape-kind.ensures in
-    own-none _ _ _ _ _ _ _ is _ _ c.entry_cell-2.ensures shapes c.enum_told-in-Object-1.given.1 _ c.first_edge.ensures c.if-first_edge-g.false
+    own-none _ _ _ _ _ _ _ is _ _ c.entry_cell-2.ensures shapes c.in-Object.is _ c.first_edge.ensures c.if-first_edge-g.false

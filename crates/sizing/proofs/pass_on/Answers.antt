@@ -23,11 +23,16 @@ pub returns-in-Scalar : goal.returns-in-Scalar
 returns-in-Scalar c =
     let name = c.entry_cell-2.ensures in
     let shape = c.shape-kind.ensures in
-    goes_scalar _ _ _ _ _ _ _ _ _ c.entry_cell.ensures c.if-entry_cell-ne70.false _ name _ shape c.enum_told-1.given.1
+    goes_scalar _ _ _ _ _ _ _ _ _ c.entry_cell.ensures c.if-entry_cell-ne70.false _ name _ shape c.in-Scalar.is
 
 pub push_targets-requires : goal.push_targets-requires
 push_targets-requires c =
-    record { edges_held = c.requires.graph_held.edges; query_held = c.requires.query_held; k_bound = c.requires.k_bound; g_in_bounds = c.requires.g_in_bounds; }
+    record {
+      edges_held = c.requires.graph_held.edges;
+      query_held = c.requires.query_held;
+      k_bound = c.requires.k_bound;
+      g_in_bounds = c.requires.g_in_bounds;
+    }
 
 pub returns-in-Objects : goal.returns-in-Objects
 returns-in-Objects c =
@@ -35,7 +40,7 @@ returns-in-Objects c =
     let name = c.entry_cell-2.ensures in
     let shape = c.shape-kind.ensures in
     let all = c.push_targets.ensures in
-    goes-all _ _ _ _ _ _ _ _ _ letter c.if-entry_cell-ne70.false _ name _ shape _ c.enum_told-in-Objects-1.given.1 all
+    goes-all _ _ _ _ _ _ _ _ _ letter c.if-entry_cell-ne70.false _ name _ shape _ c.in-Objects.is all
 
 pub overflow_cast-g : goal.overflow_cast-g
 unfolding cell
@@ -59,7 +64,7 @@ returns-then-e-g c =
     let shape = c.shape-kind.ensures in
     let edge = c.first_edge-e.ensures in
     let one = c.add_at-then-e-g.ensures in
-    goes_first _ _ _ _ _ _ _ _ _ letter c.if-entry_cell-ne70.false _ name _ shape c.enum_told-in-Object-1.given.1 _ edge _ _ c.if-e-g.true c.target.ensures one
+    goes_first _ _ _ _ _ _ _ _ _ letter c.if-entry_cell-ne70.false _ name _ shape c.in-Object.is _ edge _ _ c.if-e-g.true c.target.ensures one
 
 pub returns-else-e-g : goal.returns-else-e-g
 unfolding cell
@@ -68,4 +73,4 @@ returns-else-e-g c =
     let name = c.entry_cell-2.ensures in
     let shape = c.shape-kind.ensures in
     let edge = c.first_edge-e.ensures in
-    goes_no_edge _ _ _ _ _ _ _ _ _ letter c.if-entry_cell-ne70.false _ name _ shape c.enum_told-in-Object-1.given.1 _ edge c.if-e-g.false
+    goes_no_edge _ _ _ _ _ _ _ _ _ letter c.if-entry_cell-ne70.false _ name _ shape c.in-Object.is _ edge c.if-e-g.false

@@ -1,15 +1,13 @@
-use Prim.Native.Nat.{◌+◌, ◌-◌, ◌≤◌}
+use Prim.Native.Nat.{◌+◌, ◌≤◌}
 use mathlib.Core.Path.{◌≡◌, ◌∙◌}
-use mathlib.Core.Logic.{⊎_elim}
 use lib.ListN.{length}
 use Rattle.sizing.proofs.Rows.{zeroed-length}
 use Rattle.tables.specs.Read.{cell}
-use Rattle.world.specs.World.{next_at}
-use Rattle.sizing.proofs.Passing.{Passing, passing-none, passing-on, passing-by, passing-all, passed_on_lem, next_nodes}
+use Rattle.sizing.proofs.Passing.{passing-none, passing-on, passing-by, passing-all, passed_on_lem, next_nodes}
 use native.Mathlib.Omega.{arith}
 use borrow.Author.Rules.{rules}
 use Rattle.sizing.proofs.pass_row.Goals as goal
-use Rattle.sizing.proofs.pass_row.Goals.{At-loop-u}
+use Rattle.sizing.proofs.pass_row.Goals.{At-loop-u, then-x-gt0, else-x-gt0}
 
 -- the area at the loop's start is as long as it was
 same : (c : At-loop-u) → length c.zero_row.new.m ≡ length c.args.m.now
@@ -49,7 +47,13 @@ pub pass_on-requires : goal.pass_on-requires
 unfolding cell
 pass_on-requires c =
     let t = c.loop-u-test.true in
-    record { graph_held = c.requires.graph_held; query_held = c.requires.query_held; k_bound = c.requires.k_bound; u_bound = t; g_in_bounds = omega (arith, c.loop-u.invariant.same, room (goal.at.pass_on-requires c).At-loop-u); }
+    record {
+      graph_held = c.requires.graph_held;
+      query_held = c.requires.query_held;
+      k_bound = c.requires.k_bound;
+      u_bound = t;
+      g_in_bounds = omega (arith, c.loop-u.invariant.same, room (goal.at.pass_on-requires c).At-loop-u);
+    }
 
 pub overflow_add-u : goal.overflow_add-u
 unfolding cell
@@ -66,10 +70,11 @@ loop-u-preserved c =
     let x = c.number_at-x.ensures in
     let low = c.requires.g_bound in
     let nodes = next_nodes _ _ _ _ _ c.requires.graph_held.edges t in
-    ⊎_elim
-    (λ w. passing-on _ _ _ _ _ low (room (goal.at.loop-u-preserved c).At-loop-u) _ _ c.loop-u.invariant t _ x _ nodes (w.5 ∙ w.2.ensures))
-    (λ w. passing-by _ _ _ _ _ low (room (goal.at.loop-u-preserved c).At-loop-u) _ _ c.loop-u.invariant t _ x _ w.0.left w.1)
-    c.if-x-gt0.branch
+    let wide = room (goal.at.loop-u-preserved c).At-loop-u in
+    elim c.if-x-gt0.branch [
+      | then-x-gt0 w ↦ passing-on _ _ _ _ _ low wide _ _ c.loop-u.invariant t _ x _ nodes (w.m-is ∙ w.pass_on.ensures)
+      | else-x-gt0 w ↦ passing-by _ _ _ _ _ low wide _ _ c.loop-u.invariant t _ x _ w.if-x-gt0.false w.m-is
+    ]
 
 pub shape_of-m : goal.shape_of-m
 shape_of-m c = c.loop-u.invariant.same ∙ same (goal.at.shape_of-m c).At-loop-u

@@ -1,14 +1,8 @@
 -- `sizing::pass_row` meets its contract. The loop's invariant: what the nodes before u have passed on stands in the row. Assumes nothing.
-use Prim.Native.Nat.{◌+◌, ◌-◌, ◌≤◌}
-use mathlib.Core.Path.{◌≡◌, ◌∙◌}
-use mathlib.Core.Logic.{⊎_elim}
-use lib.ListN.{length}
-use Rattle.sizing.proofs.Rows.{zeroed-length}
+use Prim.Native.Nat.{◌-◌}
 use Rattle.tables.specs.Read.{cell}
 use Rattle.world.specs.World.{next_at}
-use Rattle.sizing.proofs.Passing.{Passing, passing-none, passing-on, passing-by, passing-all, passed_on_lem, next_nodes}
-use native.Mathlib.Omega.{arith}
-use borrow.Author.Rules.{rules}
+use Rattle.sizing.proofs.Passing.{Passing}
 use Rattle.sizing.proofs.pass_row.Given as goal
 
 abbrev pub invariant-loop-u : goal.invariant-loop-u

@@ -1,9 +1,8 @@
-use Prim.Native.Nat.{◌+◌, ◌-◌, ◌<◌}
+use Prim.Native.Nat.{◌+◌, ◌<◌}
 use lib.ListN.{length}
 use Rattle.tables.specs.Read.{cell}
-use Rattle.world.specs.World.{asked_at}
 use Rattle.world.proofs.Targets.{edges-fewer, edge-node}
-use Rattle.sizing.proofs.Passing.{Adding, adding_start, adding_on, adding_end}
+use Rattle.sizing.proofs.Passing.{adding_start, adding_on, adding_end}
 use native.Mathlib.Omega.{arith}
 use borrow.Author.Rules.{rules}
 use Rattle.sizing.proofs.push_targets.Goals as goal
@@ -37,7 +36,13 @@ pub edge_after-e-requires : goal.edge_after-e-requires
 unfolding cell
 edge_after-e-requires c =
     let t = c.loop-e-test.true in
-    record { edges_held = c.requires.edges_held; query_held = c.requires.query_held; k_bound = c.requires.k_bound; e_bound = t; e_value = edge-node _ _ _ _ _ c.loop-e.invariant.edge t; }
+    record {
+      edges_held = c.requires.edges_held;
+      query_held = c.requires.query_held;
+      k_bound = c.requires.k_bound;
+      e_bound = t;
+      e_value = edge-node _ _ _ _ _ c.loop-e.invariant.edge t;
+    }
 
 pub loop-e-smaller : goal.loop-e-smaller
 unfolding cell

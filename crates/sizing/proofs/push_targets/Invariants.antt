@@ -1,12 +1,8 @@
 -- `sizing::push_targets` meets its contract. The loop's invariant: what is left to add makes the whole. Assumes nothing.
-use Prim.Native.Nat.{◌+◌, ◌-◌, ◌<◌}
-use lib.ListN.{length}
+use Prim.Native.Nat.{◌-◌}
 use Rattle.tables.specs.Read.{cell}
 use Rattle.world.specs.World.{asked_at}
-use Rattle.world.proofs.Targets.{edges-fewer, edge-node}
-use Rattle.sizing.proofs.Passing.{Adding, adding_start, adding_on, adding_end}
-use native.Mathlib.Omega.{arith}
-use borrow.Author.Rules.{rules}
+use Rattle.sizing.proofs.Passing.{Adding}
 use Rattle.sizing.proofs.push_targets.Given as goal
 
 abbrev pub invariant-loop-e : goal.invariant-loop-e

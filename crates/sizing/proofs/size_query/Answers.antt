@@ -1,12 +1,11 @@
-use Prim.Native.Nat.{◌-◌, ◌≤◌}
+use Prim.Native.Nat.{◌≤◌}
 use native.Mathlib.Omega.{arith}
-use mathlib.Core.Path.{◌≡◌, refl, ap, ◌∙◌}
-use mathlib.Core.Logic.{⊎_elim}
+use mathlib.Core.Path.{refl, ap, ◌∙◌}
 use lib.ListN.{length}
 use Rattle.tables.specs.Read.{cell}
-use Rattle.sizing.proofs.Passes.{Sized, sized-start, sized_end, sized-flat, sized-down}
+use Rattle.sizing.proofs.Passes.{sized-start, sized_end, sized-flat, sized-down}
 use Rattle.sizing.proofs.size_query.Goals as goal
-use Rattle.sizing.proofs.size_query.Goals.{At-loop-k, After-entry_cell-d}
+use Rattle.sizing.proofs.size_query.Goals.{At-loop-k, After-entry_cell-d, then-d-lt15, else-d-lt15}
 
 -- the areas at the loop, and the depth of an entry
 wide : (c : At-loop-k) → 8192 ≤ length c.loop-k.m
@@ -21,7 +20,12 @@ low c =
 
 pub first_row-requires : goal.first_row-requires
 first_row-requires c =
-    record { schema_held = c.requires.world_held.graph.schema; nodes_held = c.requires.world_held.graph.edges.nodes; g_bound = c.requires.g_bound; g_in_bounds = omega (arith, c.requires.world_held.graph.edges.nodes.nodes, c.requires.in_bounds); }
+    record {
+      schema_held = c.requires.world_held.graph.schema;
+      nodes_held = c.requires.world_held.graph.edges.nodes;
+      g_bound = c.requires.g_bound;
+      g_in_bounds = omega (arith, c.requires.world_held.graph.edges.nodes.nodes, c.requires.in_bounds);
+    }
 
 pub bounds-q-0 : goal.bounds-q-0
 bounds-q-0 c =
@@ -40,7 +44,7 @@ loop-k-init c =
 pub entry_cell-d-requires : goal.entry_cell-d-requires
 unfolding cell
 entry_cell-d-requires c =
-    record { query_held = c.requires.query_steps.held; k_bound = c.loop-k-test.true; c_bound = omega arith; }
+    record { query_held = c.requires.query_steps.held; k_bound = c.loop-k-test.true; c_bound = omega arith }
 
 pub overflow_cast-d : goal.overflow_cast-d
 overflow_cast-d c = omega (arith, low (goal.at.overflow_cast-d c).After-entry_cell-d)
@@ -55,7 +59,13 @@ tally_row-t-requires c =
     let inside = c.loop-k-test.true in
     let entries = c.requires.query_steps.held.entries in
     let few = c.loop-k.invariant.0.few in
-    record { world_held = c.requires.world_held; query_held = c.requires.query_steps.held; k_bound = inside; g_in_bounds = omega (arith, low (goal.at.tally_row-t-requires c).After-entry_cell-d, wide (goal.at.tally_row-t-requires c).At-loop-k, nodes); visits_bound = omega (arith, few, entries, inside); }
+    record {
+      world_held = c.requires.world_held;
+      query_held = c.requires.query_steps.held;
+      k_bound = inside;
+      g_in_bounds = omega (arith, low (goal.at.tally_row-t-requires c).After-entry_cell-d, wide (goal.at.tally_row-t-requires c).At-loop-k, nodes);
+      visits_bound = omega (arith, few, entries, inside);
+    }
 
 pub overflow_mul-d-then-d-lt15 : goal.overflow_mul-d-then-d-lt15
 overflow_mul-d-then-d-lt15 c = omega (arith, low (goal.at.overflow_mul-d-then-d-lt15 c).After-entry_cell-d)
@@ -72,7 +82,13 @@ pass_row-requires c =
     let nodes = c.requires.world_held.graph.edges.nodes.nodes in
     let shallow = c.if-d-lt15.true in
     let inside = c.loop-k-test.true in
-    record { graph_held = c.requires.world_held.graph; query_held = c.requires.query_steps.held; k_bound = inside; g_bound = omega (arith, nodes); g_in_bounds = omega (arith, shallow, wide (goal.at.pass_row-requires c).At-loop-k, nodes); }
+    record {
+      graph_held = c.requires.world_held.graph;
+      query_held = c.requires.query_steps.held;
+      k_bound = inside;
+      g_bound = omega (arith, nodes);
+      g_in_bounds = omega (arith, shallow, wide (goal.at.pass_row-requires c).At-loop-k, nodes);
+    }
 
 pub overflow_add-k : goal.overflow_add-k
 unfolding cell
@@ -87,19 +103,21 @@ pub loop-k-preserved : goal.loop-k-preserved
 unfolding cell
 loop-k-preserved c =
     let inv = c.loop-k.invariant in
+    let world = c.requires.world_held in
     let held = c.requires.query_steps.held in
     let inside = c.loop-k-test.true in
     let depth = c.entry_cell-d.ensures in
     let sum = c.tally_row-t.ensures in
-    ⊎_elim
-    (λ w.
-    let laid = w.5 ∙ w.2.ensures in
-    let same = ap length w.5 ∙ w.2.kept.1.1.1.1.1.0 ∙ inv.1 in
-    (sized-down _ _ _ _ _ _ _ _ inv.0 _ _ _ c.requires.world_held held inside depth sum.0 sum.1 w.0.true (wide (goal.at.loop-k-preserved c).At-loop-k) laid, same))
-    (λ w.
-    let same = ap length w.1 ∙ inv.1 in
-    (sized-flat _ _ _ _ _ _ _ _ inv.0 _ _ _ c.requires.world_held held inside depth sum.0 sum.1 w.0.left w.1, same))
-    c.if-d-lt15.branch
+    let areas = wide (goal.at.loop-k-preserved c).At-loop-k in
+    elim c.if-d-lt15.branch [
+      | then-d-lt15 w ↦
+          let laid = w.m-is ∙ w.pass_row.ensures in
+          let same = ap length w.m-is ∙ w.pass_row.auto.m ∙ inv.1 in
+          (sized-down _ _ _ _ _ _ _ _ inv.0 _ _ _ world held inside depth sum.value sum.visits_bound_2 w.if-d-lt15.true areas laid, same)
+      | else-d-lt15 w ↦
+          let same = ap length w.m-is ∙ inv.1 in
+          (sized-flat _ _ _ _ _ _ _ _ inv.0 _ _ _ world held inside depth sum.value sum.visits_bound_2 w.if-d-lt15.false w.m-is, same)
+    ]
 
 pub shape_of-m : goal.shape_of-m
 shape_of-m c = c.loop-k.invariant.1 ∙ c.first_row.auto.m

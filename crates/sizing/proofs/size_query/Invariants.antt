@@ -1,11 +1,9 @@
 -- `sizing::size_query` meets its contract. The loop's invariant: the walk over the entries from k on is left to tally. Assumes nothing.
-use Prim.Native.Nat.{◌-◌, ◌≤◌}
-use native.Mathlib.Omega.{arith}
-use mathlib.Core.Path.{◌≡◌, refl, ap, ◌∙◌}
-use mathlib.Core.Logic.{⊎_elim}
+use Prim.Native.Nat.{◌-◌}
+use mathlib.Core.Path.{◌≡◌}
 use lib.ListN.{length}
 use Rattle.tables.specs.Read.{cell}
-use Rattle.sizing.proofs.Passes.{Sized, sized-start, sized_end, sized-flat, sized-down}
+use Rattle.sizing.proofs.Passes.{Sized}
 use Rattle.sizing.proofs.size_query.Given as goal
 
 abbrev pub invariant-loop-k : goal.invariant-loop-k

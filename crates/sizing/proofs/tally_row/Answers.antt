@@ -1,16 +1,13 @@
-use Prim.Native.Nat.{◌+◌, ◌-◌, ◌≤◌}
+use Prim.Native.Nat.{◌+◌, ◌≤◌}
 use native.Mathlib.Omega.{arith}
-use mathlib.Core.Path.{◌≡◌, refl, sym, ap, ◌∙◌}
-use mathlib.Core.Logic.{⊎_elim}
+use mathlib.Core.Path.{refl, sym, ap, ◌∙◌}
 use lib.ListN.{length}
 use borrow.Author.Rules.{rules}
 use Rattle.tables.specs.Read.{cell}
-use Rattle.world.specs.World.{world_at}
-use Rattle.sizing.specs.Measure.{row_in}
 use Rattle.sizing.specs.declared.Tally.{Tally}
-use Rattle.sizing.proofs.Tallying.{tallied_from, tally_end, tally-on, tally_skip, visits-added}
+use Rattle.sizing.proofs.Tallying.{tally_end, tally-on, tally_skip, visits-added}
 use Rattle.sizing.proofs.tally_row.Goals as goal
-use Rattle.sizing.proofs.tally_row.Goals.{At-loop-u}
+use Rattle.sizing.proofs.tally_row.Goals.{At-loop-u, then-x-gt0, else-x-gt0}
 
 -- the row fits the area
 row_fits : (c : At-loop-u) → let a = c.args in
@@ -37,7 +34,7 @@ number_at-x-requires c = omega (arith, c.loop-u-test.true, row_fits (goal.at.num
 
 pub own_tokens-requires : goal.own_tokens-requires
 own_tokens-requires c =
-    record { world_held = c.requires.world_held; query_held = c.requires.query_held; k_bound = c.requires.k_bound; }
+    record { world_held = c.requires.world_held; query_held = c.requires.query_held; k_bound = c.requires.k_bound }
 
 pub add-r-requires : goal.add-r-requires
 add-r-requires c =
@@ -59,18 +56,21 @@ loop-u-preserved c =
     let i = c.loop-u.invariant in
     let read = c.number_at-x.ensures in
     let fits = row_fits (goal.at.loop-u-preserved c).At-loop-u in
-    ⊎_elim
-    (λ w.
-    let adds = w.3 ∙ w.2.ensures in
-    let sum = tally-on _ _ _ _ _ _ fits _ _ _ _ inside read w.0.true _ w.1.ensures adds ∙ i.0 in
-    (sum, (omega (arith, visits-added _ _ _ _ adds, i.1.0), omega arith)))
-    (λ w.
-    let sum = tally_skip _ _ _ _ _ _ fits _ _ _ _ inside read w.0.left w.1 ∙ i.0 in
-    (sum, (omega (arith, ap (λ (t : Tally). t.visits) w.1, i.1.0), omega arith)))
-    c.if-x-gt0.branch
+    elim c.if-x-gt0.branch [
+      | then-x-gt0 w ↦
+          let adds = w.r-is ∙ w.add-r.ensures in
+          let sum = tally-on _ _ _ _ _ _ fits _ _ _ _ inside read w.if-x-gt0.true _ w.own_tokens.ensures adds ∙ i.0 in
+          (sum, (omega (arith, visits-added _ _ _ _ adds, i.1.0), omega arith))
+      | else-x-gt0 w ↦
+          let sum = tally_skip _ _ _ _ _ _ fits _ _ _ _ inside read w.if-x-gt0.false w.r-is ∙ i.0 in
+          (sum, (omega (arith, ap (λ (t : Tally). t.visits) w.r-is, i.1.0), omega arith))
+    ]
 
 pub returns : goal.returns
 unfolding cell
 returns c =
     let inv = c.loop-u.invariant in
-    record { value = sym (tally_end _ _ _ _ _ _ c.requires.g_in_bounds _ _ c.loop-u-test.false) ∙ inv.0; visits_bound_2 = omega (arith, inv.1.0, inv.1.1); }
+    record {
+      value = sym (tally_end _ _ _ _ _ _ c.requires.g_in_bounds _ _ c.loop-u-test.false) ∙ inv.0;
+      visits_bound_2 = omega (arith, inv.1.0, inv.1.1);
+    }

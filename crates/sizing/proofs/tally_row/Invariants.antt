@@ -1,19 +1,16 @@
 -- `sizing::tally_row` meets its contract. The loop's invariant: the visits from node u on are left to tally. Assumes nothing.
 use Prim.Native.Nat.{◌+◌, ◌-◌, ◌≤◌}
-use native.Mathlib.Omega.{arith}
-use mathlib.Core.Path.{◌≡◌, refl, sym, ap, ◌∙◌}
-use mathlib.Core.Logic.{⊎_elim}
-use lib.ListN.{length}
-use borrow.Author.Rules.{rules}
+use mathlib.Core.Path.{◌≡◌}
 use Rattle.tables.specs.Read.{cell}
 use Rattle.world.specs.World.{world_at}
 use Rattle.sizing.specs.Measure.{row_in}
-use Rattle.sizing.specs.declared.Tally.{Tally}
-use Rattle.sizing.proofs.Tallying.{tallied_from, tally_end, tally-on, tally_skip, visits-added}
+use Rattle.sizing.proofs.Tallying.{tallied_from}
 use Rattle.sizing.proofs.tally_row.Given as goal
 
 abbrev pub invariant-loop-u : goal.invariant-loop-u
-invariant-loop-u l = (tallied_from (world_at l.a l.g l.p l.v) l.q l.k (row_in l.m l.c (cell l.g 0)) l.r l.u ≡ tallied_from (world_at l.a l.g l.p l.v) l.q l.k (row_in l.m l.c (cell l.g 0)) l.initial.r 0)
+invariant-loop-u l =
+    (tallied_from (world_at l.a l.g l.p l.v) l.q l.k (row_in l.m l.c (cell l.g 0)) l.r l.u
+    ≡ tallied_from (world_at l.a l.g l.p l.v) l.q l.k (row_in l.m l.c (cell l.g 0)) l.initial.r 0)
     × ((l.r.visits ≤ l.initial.r.visits + l.u) × (l.u ≤ cell l.g 0))
 
 abbrev pub decreases-loop-u : goal.decreases-loop-u

@@ -1,11 +1,8 @@
-use Prim.Native.Nat.{◌-◌, ◌≤◌}
-use mathlib.Core.Path.{◌≡◌, refl, sym}
-use lib.ListN.{length, replicate, length-set}
-use Rattle.tables.specs.Layout.{laid}
+use mathlib.Core.Path.{refl, sym}
+use lib.ListN.{length-set}
 use Rattle.tables.proofs.Laid.{laid_nil}
 use Rattle.sizing.proofs.Rows.{zeroed-on, zeroed-all}
 use native.Mathlib.Omega.{arith}
-use borrow.Author.Rules.{rules}
 use Rattle.sizing.proofs.zero_row.Goals as goal
 
 pub loop-i-init : goal.loop-i-init

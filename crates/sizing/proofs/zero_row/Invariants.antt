@@ -1,12 +1,8 @@
 -- `sizing::zero_row` meets its contract. The loop's invariant: i zeros are laid. Assumes nothing.
 use Prim.Native.Nat.{◌-◌, ◌≤◌}
-use mathlib.Core.Path.{◌≡◌, refl, sym}
-use lib.ListN.{length, replicate, length-set}
+use mathlib.Core.Path.{◌≡◌}
+use lib.ListN.{length, replicate}
 use Rattle.tables.specs.Layout.{laid}
-use Rattle.tables.proofs.Laid.{laid_nil}
-use Rattle.sizing.proofs.Rows.{zeroed-on, zeroed-all}
-use native.Mathlib.Omega.{arith}
-use borrow.Author.Rules.{rules}
 use Rattle.sizing.proofs.zero_row.Given as goal
 
 abbrev pub invariant-loop-i : goal.invariant-loop-i

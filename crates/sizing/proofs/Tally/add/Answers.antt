@@ -1,7 +1,6 @@
 -- `sizing::Tally::add` meets its contract: the product fits, and the sum of capped numbers, capped, is the capped sum. Assumes nothing.
 use native.Mathlib.Omega.{arith}
 use Rattle.sizing.proofs.Tallying.{product_fits, added}
-use borrow.Author.Rules.{rules}
 use Rattle.sizing.proofs.Tally.add.Goals as goal
 
 pub overflow_mul-cap : goal.overflow_mul-cap

@@ -58,7 +58,10 @@ loop-at-smaller c = let t = turned (goal.at.loop-at-smaller c).After-read_row-r 
 pub loop-at-preserved : goal.loop-at-preserved
 loop-at-preserved c =
     graph-on c.loop-at.invariant (turned (goal.at.loop-at-preserved c).After-read_row-r) refl
-    c.put_in-nodes.ensures c.put_in-edges.ensures c.put_in-properties.ensures c.put_values-values.ensures
+    (c.put_in-nodes.ensures.value, c.put_in-nodes.ensures.area_after)
+    (c.put_in-edges.ensures.value, c.put_in-edges.ensures.area_after)
+    (c.put_in-properties.ensures.value, c.put_in-properties.ensures.area_after)
+    (c.put_values-values.ensures.value, c.put_values-values.ensures.area_after)
 
 pub overflow_sub-result : goal.overflow_sub-result
 overflow_sub-result c = omega (arith, nodes_end c.loop-at.invariant c.loop-at-test.false)

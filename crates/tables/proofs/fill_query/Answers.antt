@@ -26,7 +26,7 @@ loop-at-smaller c = let t = turned (goal.at.loop-at-smaller c).After-read_row-r 
 
 pub loop-at-preserved : goal.loop-at-preserved
 loop-at-preserved c =
-    query-on c.loop-at.invariant (turned (goal.at.loop-at-preserved c).After-read_row-r) c.put_in-place.ensures
+    query-on c.loop-at.invariant (turned (goal.at.loop-at-preserved c).After-read_row-r) (c.put_in-place.ensures.value, c.put_in-place.ensures.area_after)
 
 pub overflow_sub-result : goal.overflow_sub-result
 overflow_sub-result c = omega (arith, query_end c.loop-at.invariant c.loop-at-test.false)

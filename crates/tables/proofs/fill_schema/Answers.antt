@@ -21,16 +21,16 @@ long-1 : (c : After-put_in-types) → length c.put_in-types.new.area ≡ length 
 long-1 c = c.put_in-types.auto.area
 
 long-2 : (c : After-put_in-fields) → length c.put_in-fields.new.area ≡ length c.loop-at.area
-long-2 c = c.put_in-fields.auto.area ∙ long-1 c
+long-2 c = c.put_in-fields.auto.area ∙ c.put_in-types.auto.area
 
 long-3 : (c : After-put_in-args) → length c.put_in-args.new.area ≡ length c.loop-at.area
-long-3 c = c.put_in-args.auto.area ∙ long-2 c
+long-3 c = c.put_in-args.auto.area ∙ c.put_in-fields.auto.area ∙ c.put_in-types.auto.area
 
 long-4 : (c : After-put_in-has) → length c.put_in-has.new.area ≡ length c.loop-at.area
-long-4 c = c.put_in-has.auto.area ∙ long-3 c
+long-4 c = c.put_in-has.auto.area ∙ c.put_in-args.auto.area ∙ c.put_in-fields.auto.area ∙ c.put_in-types.auto.area
 
 long-5 : (c : After-put_in-takes) → length c.put_in-takes.new.area ≡ length c.loop-at.area
-long-5 c = c.put_in-takes.auto.area ∙ long-4 c
+long-5 c = c.put_in-takes.auto.area ∙ c.put_in-has.auto.area ∙ c.put_in-args.auto.area ∙ c.put_in-fields.auto.area ∙ c.put_in-types.auto.area
 
 -- the places at the end, and how many rows there are at most
 ends : (c : After-loop-at) → let l = c.loop-at in
@@ -79,8 +79,13 @@ loop-at-smaller c = let t = turned (goal.at.loop-at-smaller c).After-read_row-r 
 pub loop-at-preserved : goal.loop-at-preserved
 loop-at-preserved c =
     schema-on c.loop-at.invariant (turned (goal.at.loop-at-preserved c).After-read_row-r)
-    c.put_in-types.ensures c.put_in-fields.ensures c.put_in-args.ensures
-    c.put_in-has.ensures c.put_in-takes.ensures c.put_in-members.ensures c.ask-queries.ensures
+    (c.put_in-types.ensures.value, c.put_in-types.ensures.area_after)
+    (c.put_in-fields.ensures.value, c.put_in-fields.ensures.area_after)
+    (c.put_in-args.ensures.value, c.put_in-args.ensures.area_after)
+    (c.put_in-has.ensures.value, c.put_in-has.ensures.area_after)
+    (c.put_in-takes.ensures.value, c.put_in-takes.ensures.area_after)
+    (c.put_in-members.ensures.value, c.put_in-members.ensures.area_after)
+    c.ask-queries.ensures
 
 pub overflow_sub-result : goal.overflow_sub-result
 overflow_sub-result c = omega (arith, (ends (goal.at.overflow_sub-result c).After-loop-at).types_end)

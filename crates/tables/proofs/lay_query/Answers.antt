@@ -16,5 +16,4 @@ shape_of-area c =
 
 pub returns : goal.returns
 returns c =
-    let e = c.fill_query-entries.ensures in
-    query-laid _ _ _ _ c.clear.ensures _ (omega (arith, c.fill_query-entries.auto.area, c.clear.auto.area, c.requires.in_bounds)) e.1 e.0
+    query-laid _ _ _ _ c.clear.ensures _ (omega (arith, c.fill_query-entries.auto.area, c.clear.auto.area, c.requires.in_bounds)) c.fill_query-entries.ensures.area_after c.fill_query-entries.ensures.value

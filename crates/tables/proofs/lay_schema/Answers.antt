@@ -10,5 +10,4 @@ fill_schema-c-requires c =
 
 pub returns : goal.returns
 returns c =
-    let e = c.fill_schema-c.ensures in
-    schema-laid _ _ _ _ _ _ c.clear.ensures e.1 c.put_head.ensures e.0
+    schema-laid _ _ _ _ _ _ c.clear.ensures c.fill_schema-c.ensures.area_after c.put_head.ensures c.fill_schema-c.ensures.value

@@ -10,9 +10,8 @@ put_row-requires c =
 
 pub returns-then-belongs_to : goal.returns-then-belongs_to
 returns-then-belongs_to c =
-    let put = c.put_row.ensures in
     let b = c.belongs_to.ensures in
-    record { value = next_with c.args.k c.args.start c.args.r b c.if-belongs_to.true c.args.place _ put.0; area_after = laid_with c.args.k c.args.start c.args.r b c.if-belongs_to.true c.args.place c.args.area.now _ put.1; }
+    record { value = next_with c.args.k c.args.start c.args.r b c.if-belongs_to.true c.args.place _ c.put_row.ensures.value; area_after = laid_with c.args.k c.args.start c.args.r b c.if-belongs_to.true c.args.place c.args.area.now _ c.put_row.ensures.area_after; }
 
 pub returns : goal.returns
 returns c =

@@ -9,14 +9,12 @@ use Rattle.tables.proofs.Putting.{Putting, Next, none_left, fault_left, next-num
 use Rattle.tables.proofs.put_numbers.Goals as goal
 use Rattle.tables.proofs.put_numbers.Goals.{After-byte_at-b-in-loop-b, Then-skip-before}
 
-next : (c : After-byte_at-b-in-loop-b) → let v = c.value-1.given.0 in
-    Next c.args.s.now c.loop-b.i v.0 v.1.0
-next c =
-    next-number c.loop-b.invariant.1 c.loop-b-test.true c.number.ensures c.value-1.given.1
+next : (c : After-byte_at-b-in-loop-b) → Next c.args.s.now c.loop-b.i c.in-Value.value c.in-Value.next
+next c = next-number c.loop-b.invariant.1 c.loop-b-test.true c.number.ensures c.in-Value.is
 
 -- where a number is laid there is room for it
-room : (c : Then-skip-before) → c.loop-b.place < length c.loop-b.area
-room c = putting_room c.loop-b.invariant.0 (next c) c.if-skip-before.true
+room : (c : Then-skip-before) → Next c.args.s.now c.loop-b.i c.in-Value.value c.in-Value.next → c.loop-b.place < length c.loop-b.area
+room c n = putting_room c.loop-b.invariant.0 n c.if-skip-before.true
 
 pub overflow_add-i : goal.overflow_add-i
 overflow_add-i c = omega (arith, c.requires.at_in_bounds)
@@ -32,17 +30,17 @@ shape_of-area-in_default c = c.loop-b.invariant.0.same
 
 pub returns-in_default : goal.returns-in_default
 returns-in_default c =
-    let e = fault_left c.loop-b.invariant.1 c.loop-b-test.true c.number.ensures c.enum_told-1.given.1 in
+    let e = fault_left c.loop-b.invariant.1 c.loop-b-test.true c.number.ensures c.in_default.is in
     record { value = putting_count c.loop-b.invariant.0 e; area_after = putting_all c.loop-b.invariant.0 e; }
 
 pub offset_bounds-area-place : goal.offset_bounds-area-place
-offset_bounds-area-place c = let r = room (goal.at.offset_bounds-area-place c).Then-skip-before in search rules
+offset_bounds-area-place c = let r = room (goal.at.offset_bounds-area-place c).Then-skip-before (next (goal.at.offset_bounds-area-place c).After-byte_at-b-in-loop-b) in search rules
 
 pub bounds-area-place : goal.bounds-area-place
-bounds-area-place c = room (goal.at.bounds-area-place c).Then-skip-before
+bounds-area-place c = room (goal.at.bounds-area-place c).Then-skip-before (next (goal.at.bounds-area-place c).After-byte_at-b-in-loop-b)
 
 pub overflow_add-place : goal.overflow_add-place
-overflow_add-place c = omega (arith, room (goal.at.overflow_add-place c).Then-skip-before)
+overflow_add-place c = omega (arith, room (goal.at.overflow_add-place c).Then-skip-before (next (goal.at.overflow_add-place c).After-byte_at-b-in-loop-b))
 
 pub loop-b-smaller-then-skip-before : goal.loop-b-smaller-then-skip-before
 loop-b-smaller-then-skip-before c = let w = next (goal.at.loop-b-smaller-then-skip-before c).After-byte_at-b-in-loop-b in omega arith

@@ -36,8 +36,7 @@ put_numbers-requires c =
 pub returns-then-r-eq80 : goal.returns-then-r-eq80
 returns-then-r-eq80 c =
     let v = values (goal.at.returns-then-r-eq80 c).After-nums-1 in
-    let e = c.put_numbers.ensures in
-    record { value = e.0 ∙ ap (λ (l : List ℕ). c.args.place + length l) v; area_after = e.1 ∙ ap (λ (l : List ℕ). laid c.args.place l c.args.area.now) v; }
+    record { value = c.put_numbers.ensures.value ∙ ap (λ (l : List ℕ). c.args.place + length l) v; area_after = c.put_numbers.ensures.area_after ∙ ap (λ (l : List ℕ). laid c.args.place l c.args.area.now) v; }
 
 pub returns : goal.returns
 returns c =

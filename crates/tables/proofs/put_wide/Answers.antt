@@ -19,7 +19,7 @@ bounds-area-place-in-loop-i c = omega (arith, simp length-set at c.loop-i.invari
 
 pub loop-i-preserved : goal.loop-i-preserved
 loop-i-preserved c =
-    let w : length c.args.t5 ≡ 12 = search rules in
+    let w : length c.args.nums ≡ 12 = search rules in
     let v = c.loop-i.invariant in
     (next-stored _ _ _ _ _ v.0 (omega arith) (simp length-set (omega arith)), omega arith, simp length-set (simp length-set at v.2))
 
@@ -28,7 +28,6 @@ shape_of-area c = c.loop-i.invariant.2 ∙ simp length-set
 
 pub returns : goal.returns
 returns c =
-    let a = c.args in
     let l = c.loop-i in
-    let w : length a.t5 ≡ 12 = search rules in
-    wide-stored _ _ _ a.t5 a.area.now _ l.i l.invariant.0 (omega arith) (omega arith)
+    let w : length c.args.nums ≡ 12 = search rules in
+    wide-stored _ _ _ c.args.nums c.args.area.now _ l.i l.invariant.0 (omega arith) (omega arith)

@@ -23,7 +23,7 @@ use Rattle.graph.specs.Held.{NodesHeld, PropertiesHeld}
 use Rattle.graph.specs.Faults.{nodes_at, fault22, fault23, fault24_e, fault24_p, diverts_at, twin_edge, twin_property}
 use Rattle.search.specs.declared.Counts.{Counts}
 use Rattle.search.specs.Search.{areas, plain_check, alone, alone11, alone21, alone24, alone31, pair_base, pair_count, limit, clash}
-use Rattle.search.specs.Search.{GraphTestable, Testable, Clashable, indexed, head_of, step_of, Indexed, IndexReady}
+use Rattle.search.specs.Search.{GraphTestable, Testable, Clashable, indexed, head_of, step_of}
 use Rattle.search.specs.Search.{pair_rows, pair_links, pair_first, pair_next, first_asked, next_asked}
 
 module _ (n : ℕ) (a g p v : List ℕ) (c : Counts) (r : Read) where
@@ -230,10 +230,6 @@ module _ (n : ℕ) where
     pub step-one : (j : ℕ) → b ≡ false → j + 1 ≡ step_of n g p x r j
     unfolding step_of
     step-one j t = rw (sym is ∙ t)
-
-    -- what may be asked of the index
-    pub index_asked : IndexReady n g p x → b ≡ true → Indexed g p x
-    index_asked ready t = ready.linked (sym is ∙ t)
 
 pub ruleset index-laws = (index_25, index_26)
 

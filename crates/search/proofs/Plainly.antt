@@ -16,14 +16,6 @@ use Rattle.search.specs.declared.Counts.{Counts}
 use Rattle.search.specs.Count.{counts_with}
 use Rattle.search.specs.Search.{full, alone11, alone21, alone31}
 
--- ---- one more where a test passes
-
-pub tick_yes : (k l : ℕ) (b : Bool) → b ≡ belongs k (lettered l) → b ≡ true → 1 ≡ one_if (belongs k (lettered l))
-tick_yes k l b e h = ap one_if (sym h ∙ e)
-
-pub tick_no : (k l : ℕ) (b : Bool) → b ≡ belongs k (lettered l) → b ≡ false → 0 ≡ one_if (belongs k (lettered l))
-tick_no k l b e h = ap one_if (sym h ∙ e)
-
 -- the counts with one row more
 pub with_counts : (c : Counts) (l v : ℕ) {t1 t2 t3 t4 t5 t6 t7 t8 t9 : ℕ}
     → t1 ≡ one_if (belongs 1 (lettered l))
@@ -116,14 +108,6 @@ fault-passes o b e h = sym (ap as_fault (e ∙ ap (λ (t : Bool). fault_if t 0) 
 
 fault-none : (o : Option ℕ) (b : Bool) → o ≡ fault_if b 0 → b ≡ false → Fine ≡ as_fault o
 fault-none o b e h = sym (ap as_fault (e ∙ ap (λ (t : Bool). fault_if t 0) h))
-
--- whether a maximum is passed, as the code tests it
-pub full_test : (k most count l : ℕ) (b t : Bool) → b ≡ belongs k (lettered l) → b ≡ true → t ≡ leb most count
-    → t ≡ passes k most count l
-full_test k most count l b t e h q = q ∙ rw (sym e ∙ h)
-
-pub not_full : (k most count l : ℕ) (b : Bool) → b ≡ belongs k (lettered l) → b ≡ false → false ≡ passes k most count l
-not_full k most count l b e h = rw (sym e ∙ h)
 
 -- the answers of 11: the first maximum that is passed, or none
 module _ (c : Counts) (l : ℕ) (b1 b2 b3 b4 b5 b6 : Bool) where

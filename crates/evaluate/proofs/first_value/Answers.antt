@@ -1,5 +1,4 @@
 -- `evaluate::first_value` meets its contract. Assumes nothing.
-use borrow.Author.Rules.{rules}
 use Rattle.tables.specs.Read.{values_at}
 use Rattle.evaluate.proofs.Values.{values-none}
 use Rattle.evaluate.proofs.first_value.Goals as goal

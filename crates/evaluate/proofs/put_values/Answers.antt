@@ -1,8 +1,5 @@
-use Prim.Native.Nat.{◌-◌}
-use borrow.Author.Rules.{rules}
-use lib.ListN.{drop}
-use Rattle.tables.specs.Read.{values_at}
-use Rattle.evaluate.proofs.Write.{Part, part_none, part_room, part_step, part_length, part_end}
+-- What the check asks of `evaluate::put_values`. Assumes nothing.
+use Rattle.evaluate.proofs.Write.{part_none, part_room, part_step, part_length, part_end}
 use Rattle.evaluate.proofs.Values.{values-next, values-done}
 use Rattle.evaluate.proofs.put_values.Goals as goal
 

@@ -1,10 +1,8 @@
 -- `evaluate::put_values` meets its contract. The invariant: the values are written up to value i; the measure: the values left. Assumes nothing.
 use Prim.Native.Nat.{◌-◌}
-use borrow.Author.Rules.{rules}
 use lib.ListN.{drop}
 use Rattle.tables.specs.Read.{values_at}
-use Rattle.evaluate.proofs.Write.{Part, part_none, part_room, part_step, part_length, part_end}
-use Rattle.evaluate.proofs.Values.{values-next, values-done}
+use Rattle.evaluate.proofs.Write.{Part}
 use Rattle.evaluate.proofs.put_values.Given as goal
 
 abbrev pub invariant-loop-i : goal.invariant-loop-i

@@ -7,11 +7,12 @@ use Rattle.search.proofs.Plainly.{Room, values-passed, values-kept, no_values, v
 use Rattle.search.proofs.check_21.Goals as goal
 use Rattle.search.proofs.check_21.Goals.{Else-is_full-3}
 
+-- no table is full, at a place behind the three tests
 room : (c : Else-is_full-3) → Room c.args.c c.args.letter
 room c =
     record {
-      c = sym c.is_full.ensures ∙ c.if-is_full.false;
-      c = sym c.is_full-2.ensures ∙ c.if-is_full-2.false;
+      nodes = sym c.is_full.ensures ∙ c.if-is_full.false;
+      edges = sym c.is_full-2.ensures ∙ c.if-is_full-2.false;
       properties = sym c.is_full-3.ensures ∙ c.if-is_full-3.false;
     }
 

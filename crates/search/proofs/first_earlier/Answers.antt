@@ -1,18 +1,10 @@
 -- `search::first_earlier` meets its contract: of 13 along the chain of a pair, of the others as `first_datum` has it. Assumes nothing.
-use borrow.Author.Rules.{rules}
 use Rattle.search.proofs.Dispatch.{first-of_pair, first-of_datum}
 use Rattle.search.proofs.first_earlier.Goals as goal
-
-pub first_pair-requires : goal.first_pair-requires
-first_pair-requires c = c.requires.pairs_ready.held c.if-check-eq13.true
 
 pub returns-then-check-eq13 : goal.returns-then-check-eq13
 returns-then-check-eq13 c =
     first-of_pair _ c.args.a.now c.args.g.now c.args.p.now c.args.ix.now c.args.r _ c.if-check-eq13.true c.first_pair.ensures
-
-pub first_datum-requires : goal.first_datum-requires
-first_datum-requires c =
-    record { nums_len = c.requires.nums_len; index_ready = c.requires.index_ready; }
 
 pub returns : goal.returns
 returns c =

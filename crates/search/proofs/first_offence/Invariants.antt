@@ -1,20 +1,13 @@
 -- `search::first_offence` meets its contract. The outer loop's invariant: the lines before `at` do not offend, and c counts them. The
 -- inner one's: the earlier lines before the j-th do not clash, and the j-th is one that is asked. The measures are the bytes and the earlier
 -- lines left. Assumes nothing.
-use Prim.Native.Nat.{◌-◌, ◌≤◌}
-use mathlib.Core.Path.{◌≡◌, refl, sym, ◌∙◌}
-use native.Mathlib.Omega.{arith}
-use borrow.Author.Rules.{rules}
-use lib.ListN.{length, get_or}
-use Rattle.rules.specs.Search.{spot, as_fault}
-use Rattle.rules.specs.declared.Fault.TheVariants.{Fine}
-use Rattle.schema.proofs.Searching.{left_found, left_ended}
-use Rattle.search.specs.Search.{Areas, areas, alone, Testable, Clashable, Stepping}
-use Rattle.search.proofs.Looping.{Going, going_start, going_ended, found-alone, found-clash, going_on, next-further}
-use Rattle.schema.proofs.Following.{seek_on, seek_less}
-use Rattle.search.proofs.Walking.{SeekingAt, seek_start, earlier-few}
-use Rattle.search.proofs.Asking.{searched, testable, stepping}
-use Rattle.search.proofs.Plainly.{values-most}
+use Prim.Native.Nat.{◌-◌}
+use mathlib.Core.Path.{◌≡◌}
+use lib.ListN.{length}
+use Rattle.rules.specs.Search.{spot}
+use Rattle.search.specs.Search.{areas}
+use Rattle.search.proofs.Looping.{Going}
+use Rattle.search.proofs.Walking.{SeekingAt}
 use Rattle.search.proofs.first_offence.Given as goal
 
 abbrev pub invariant-loop-j : goal.invariant-loop-j

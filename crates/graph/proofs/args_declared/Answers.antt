@@ -49,12 +49,11 @@ pub loop-i-smaller : goal.loop-i-smaller
 loop-i-smaller c = search (declaring, rules)
 
 pub loop-i-preserved : goal.loop-i-preserved
-loop-i-preserved c =
-    (
-      declared_on _ _ _ _ c.loop-i.invariant.0 c.loop-i-test.true c.requires.nums_bound c.requires.nums_len
-          c.declared_arg.ensures c.if-not-declared_arg.false,
-      omega arith,
-    )
+loop-i-preserved c = (
+  declared_on _ _ _ _ c.loop-i.invariant.0 c.loop-i-test.true c.requires.nums_bound c.requires.nums_len
+      c.declared_arg.ensures c.if-not-declared_arg.false,
+  omega arith,
+)
 
 pub returns : goal.returns
 returns c = search (declaring, rules)

@@ -81,12 +81,11 @@ pub loop-i-smaller : goal.loop-i-smaller
 loop-i-smaller c = search (taking, rules)
 
 pub loop-i-preserved : goal.loop-i-preserved
-loop-i-preserved c =
-    (
-      taken-on _ _ _ _ _ _ _ c.loop-i.invariant.0 c.loop-i-test.true c.requires.nums_bound c.requires.nums_len c.takes_arg.ensures
-          c.if-not-takes_arg.false c.arg_type.ensures c.in_range.ensures c.if-not-in_range.false,
-      omega arith,
-    )
+loop-i-preserved c = (
+  taken-on _ _ _ _ _ _ _ c.loop-i.invariant.0 c.loop-i-test.true c.requires.nums_bound c.requires.nums_len c.takes_arg.ensures
+      c.if-not-takes_arg.false c.arg_type.ensures c.in_range.ensures c.if-not-in_range.false,
+  omega arith,
+)
 
 pub returns : goal.returns
 returns c = search (taking, rules)

@@ -11,7 +11,7 @@ returns-then-nums-list_mark c = search (judging-24, rules)
 
 pub values_fault-requires : goal.values_fault-requires
 values_fault-requires c =
-    record { schema_held = search rules; properties_held = search rules; j_bound = search rules; le_from = search rules; from_bound = search rules; v_len_bound = search rules; }
+    record { schema_held = search rules; properties_held = search rules; j_bound = search rules; le_from = search rules; from_bound = search rules; v_len_bound = search rules }
 
 pub returns : goal.returns
 returns c = search (judging-24, rules)

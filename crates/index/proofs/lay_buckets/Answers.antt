@@ -21,7 +21,7 @@ overflow_cast-first c = omega arith
 pub link_row-requires : goal.link_row-requires
 link_row-requires c =
     let l = c.loop-j.invariant in
-    record { at_in_bounds = omega (arith, c.requires.blank.long, l.0.same); at_bound = c.requires.blank.low; j_bound = omega (arith, c.requires.few); key_bound = bucket_small c.row_cell-first.result; }
+    record { at_in_bounds = omega (arith, c.requires.blank.long, l.0.same); at_bound = c.requires.blank.low; j_bound = omega (arith, c.requires.few); key_bound = bucket_small c.row_cell-first.result }
 
 pub loop-j-smaller : goal.loop-j-smaller
 loop-j-smaller c = omega arith

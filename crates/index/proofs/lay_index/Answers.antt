@@ -13,7 +13,7 @@ overflow_cast-g c = omega (arith, c.requires.rowed.nodes.few)
 pub lay_links-requires : goal.lay_links-requires
 unfolding cell
 lay_links-requires c =
-    record { rowed = c.requires.rowed; blank = blank_first _ _ c.requires.in_bounds c.clear.ensures; }
+    record { rowed = c.requires.rowed; blank = blank_first _ _ c.requires.in_bounds c.clear.ensures }
 
 pub overflow_cast-p : goal.overflow_cast-p
 unfolding cell
@@ -22,7 +22,7 @@ overflow_cast-p c = omega (arith, c.requires.rowed_2.nodes.few)
 pub lay_links-requires-2 : goal.lay_links-requires-2
 unfolding cell
 lay_links-requires-2 c =
-    record { rowed = c.requires.rowed_2; blank = blank_second _ _ c.requires.in_bounds c.clear.ensures _ _ c.lay_links.ensures; }
+    record { rowed = c.requires.rowed_2; blank = blank_second _ _ c.requires.in_bounds c.clear.ensures _ _ c.lay_links.ensures }
 
 pub returns : goal.returns
 unfolding cell index_at

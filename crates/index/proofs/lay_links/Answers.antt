@@ -23,7 +23,7 @@ overflow_cast-node c = omega (arith, small (goal.at.overflow_cast-node c).After-
 pub link_row-requires : goal.link_row-requires
 link_row-requires c =
     let l = c.loop-j.invariant in
-    record { at_in_bounds = omega (arith, c.requires.blank.long, l.0.same); at_bound = c.requires.blank.low; j_bound = omega (arith, c.requires.rowed.nodes.few); key_bound = small (goal.at.link_row-requires c).After-row_cell-node; }
+    record { at_in_bounds = omega (arith, c.requires.blank.long, l.0.same); at_bound = c.requires.blank.low; j_bound = omega (arith, c.requires.rowed.nodes.few); key_bound = small (goal.at.link_row-requires c).After-row_cell-node }
 
 pub loop-j-smaller : goal.loop-j-smaller
 loop-j-smaller c = omega arith

@@ -11,4 +11,4 @@ overflow_cast-result c = omega (arith, c.shared_slice_known-1.given c.args.i)
 pub returns : goal.returns
 unfolding cell
 returns c =
-    record { value = refl; upper_bound = omega (arith, c.shared_slice_known-1.given c.args.i); }
+    record { value = refl; upper_bound = omega (arith, c.shared_slice_known-1.given c.args.i) }

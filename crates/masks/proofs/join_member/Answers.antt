@@ -13,7 +13,7 @@ row_cell-o-requires c = omega (arith, c.requires.joinable.long, c.requires.joina
 pub join-requires : goal.join-requires
 join-requires c =
     let small = c.requires.joinable.small _ c.requires.j_bound in
-    record { schema_needed_in_bounds = c.requires.joinable.long; t_bound = omega (arith, c.row_cell-t.ensures, small.0); o_bound = omega (arith, c.row_cell-o.ensures, small.1); }
+    record { schema_needed_in_bounds = c.requires.joinable.long; t_bound = omega (arith, c.row_cell-t.ensures, small.0); o_bound = omega (arith, c.row_cell-o.ensures, small.1) }
 
 pub returns : goal.returns
 unfolding member_joined

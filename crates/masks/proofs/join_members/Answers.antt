@@ -33,18 +33,17 @@ pub join_member-requires : goal.join_member-requires
 unfolding cell
 join_member-requires c =
     let count = same_count (goal.at.join_member-requires c).At-loop-j in
-    record { joinable = still_joinable c.args.a.now c.loop-j.a c.loop-j.j c.requires c.loop-j.invariant.0; j_bound = omega (arith, c.loop-j-test.true); }
+    record { joinable = still_joinable c.args.a.now c.loop-j.a c.loop-j.j c.requires c.loop-j.invariant.0; j_bound = omega (arith, c.loop-j-test.true) }
 
 pub overflow_add-j : goal.overflow_add-j
 unfolding cell
 overflow_add-j c = let few = c.requires.few in omega (arith, c.loop-j-test.true)
 
 pub loop-j-preserved : goal.loop-j-preserved
-loop-j-preserved c =
-    (
-      join-turn member_joined c.args.a.now c.loop-j.a _ c.loop-j.j c.loop-j.invariant.0 c.join_member.ensures,
-      omega (arith, c.loop-j-test.true),
-    )
+loop-j-preserved c = (
+  join-turn member_joined c.args.a.now c.loop-j.a _ c.loop-j.j c.loop-j.invariant.0 c.join_member.ensures,
+  omega (arith, c.loop-j-test.true),
+)
 
 pub returns : goal.returns
 unfolding cell

@@ -19,18 +19,17 @@ loop-t-init c = (refl, omega arith)
 pub join_object-requires : goal.join_object-requires
 unfolding cell
 join_object-requires c =
-    record { schema_needed_in_bounds = omega (arith, same (goal.at.join_object-requires c).At-loop-t, c.requires.schema_needed_in_bounds); t_bound = omega (arith, c.requires.type_count_bound, c.loop-t-test.true); }
+    record { schema_needed_in_bounds = omega (arith, same (goal.at.join_object-requires c).At-loop-t, c.requires.schema_needed_in_bounds); t_bound = omega (arith, c.requires.type_count_bound, c.loop-t-test.true) }
 
 pub overflow_add-t : goal.overflow_add-t
 unfolding cell
 overflow_add-t c = let few = c.requires.type_count_bound in omega (arith, c.loop-t-test.true)
 
 pub loop-t-preserved : goal.loop-t-preserved
-loop-t-preserved c =
-    (
-      join-turn object_joined c.args.a.now c.loop-t.a _ c.loop-t.t c.loop-t.invariant.0 c.join_object.ensures,
-      omega (arith, c.loop-t-test.true),
-    )
+loop-t-preserved c = (
+  join-turn object_joined c.args.a.now c.loop-t.a _ c.loop-t.t c.loop-t.invariant.0 c.join_object.ensures,
+  omega (arith, c.loop-t-test.true),
+)
 
 pub returns : goal.returns
 unfolding cell

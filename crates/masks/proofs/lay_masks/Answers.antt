@@ -5,7 +5,7 @@ use Rattle.masks.proofs.lay_masks.Goals as goal
 
 pub join_objects-requires : goal.join_objects-requires
 join_objects-requires c =
-    record { schema_needed_in_bounds = c.requires.long; type_count_bound = c.requires.types; }
+    record { schema_needed_in_bounds = c.requires.long; type_count_bound = c.requires.types }
 
 pub join_members-requires : goal.join_members-requires
 join_members-requires c =

@@ -22,7 +22,7 @@ overflow_cast-end c = search (lacks-laws, rules)
 pub first_row-j-requires : goal.first_row-j-requires
 unfolding Bucketed
 first_row-j-requires c = let k = c.requires.has_links in
-    record { at_in_bounds = k.long; at_bound = k.low; }
+    record { at_in_bounds = k.long; at_bound = k.low }
 
 pub loop-j-init : goal.loop-j-init
 unfolding cell Bucketed head_in
@@ -49,7 +49,7 @@ pub next_row-j-requires : goal.next_row-j-requires
 unfolding cell Bucketed
 next_row-j-requires c =
     let k = c.requires.has_links in
-    record { at_in_bounds = k.long; at_bound = k.low; j_bound = omega (arith, k.keyed.few, c.loop-j-test.true); }
+    record { at_in_bounds = k.long; at_bound = k.low; j_bound = omega (arith, k.keyed.few, c.loop-j-test.true) }
 
 pub loop-j-smaller : goal.loop-j-smaller
 unfolding cell next_in
@@ -64,9 +64,10 @@ loop-j-preserved c =
     let f = c.row_cell.ensures in
     subst (Seeking _ _ _) (sym c.next_row-j.ensures) (seek_on v h
     (elim c.if-row_cell-t.branch [
-      then-row_cell-t+else-not-has_field w ↦
-        lacks-not _ _ _ _ _ f _ _ w.if-row_cell-t.true w.row_cell-then-row_cell-t.ensures w.has_field.ensures w.if-not-has_field.false
-    | else-row_cell-t w ↦ lacks_other _ _ _ _ _ f w.if-row_cell-t.false ]))
+      | then-row_cell-t+else-not-has_field w ↦
+          lacks-not _ _ _ _ _ f _ _ w.if-row_cell-t.true w.row_cell-then-row_cell-t.ensures w.has_field.ensures w.if-not-has_field.false
+      | else-row_cell-t w ↦ lacks_other _ _ _ _ _ f w.if-row_cell-t.false
+    ]))
 
 pub returns : goal.returns
 unfolding cell

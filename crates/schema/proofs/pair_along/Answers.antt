@@ -9,7 +9,7 @@ use Rattle.schema.proofs.pair_along.Goals as goal
 
 pub first_row-j-requires : goal.first_row-j-requires
 first_row-j-requires c = let k = c.requires.chained in
-    record { at_in_bounds = k.long; at_bound = k.low; }
+    record { at_in_bounds = k.long; at_bound = k.low }
 
 pub loop-j-init : goal.loop-j-init
 unfolding head_in
@@ -19,7 +19,7 @@ loop-j-init c =
 
 pub pair_at-requires : goal.pair_at-requires
 pair_at-requires c =
-    record { j_in_bounds = omega (arith, c.requires.n_in_bounds); base_bound = c.requires.base_bound; j_bound = omega (arith, c.requires.chained.keyed.few); }
+    record { j_in_bounds = omega (arith, c.requires.n_in_bounds); base_bound = c.requires.base_bound; j_bound = omega (arith, c.requires.chained.keyed.few) }
 
 pub returns-then-pair_at : goal.returns-then-pair_at
 returns-then-pair_at c =
@@ -28,7 +28,7 @@ returns-then-pair_at c =
 pub next_row-j-requires : goal.next_row-j-requires
 next_row-j-requires c =
     let k = c.requires.chained in
-    record { at_in_bounds = k.long; at_bound = k.low; j_bound = omega (arith, k.keyed.few, c.loop-j-test.true); }
+    record { at_in_bounds = k.long; at_bound = k.low; j_bound = omega (arith, k.keyed.few, c.loop-j-test.true) }
 
 pub loop-j-smaller : goal.loop-j-smaller
 unfolding next_in

@@ -14,7 +14,7 @@ returns-then-not-is_response-2 c =
 
 pub made_from-requires : goal.made_from-requires
 made_from-requires c =
-    record { response = told c.is_response.ensures c.if-not-is_response.false; response_2 = told c.is_response-2.ensures c.if-not-is_response-2.false; }
+    record { response = told c.is_response.ensures c.if-not-is_response.false; response_2 = told c.is_response-2.ensures c.if-not-is_response-2.false }
 
 pub returns-then-made_from : goal.returns-then-made_from
 returns-then-made_from c = answers c.reply-then-made_from.ensures (says-yes (c.made_from.ensures.0 c.if-made_from.true))

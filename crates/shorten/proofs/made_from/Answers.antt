@@ -19,8 +19,9 @@ loop-i-preserved c =
     let l = c.loop-i in
     next l.invariant c.loop-i-test.true _ _ _ _ c.side_of-d.ensures c.stands_at-hit.ensures
     (elim c.if-depth-eq0.branch [
-      then-depth-eq0 w ↦ none_saved l.saved l.w.depth l.w.place _ w.if-depth-eq0.true w.back-is
-    | else-depth-eq0 w ↦ saved_for_lem l.saved l.w.depth l.w.place _ w.if-depth-eq0.false w.back-is ])
+      | then-depth-eq0 w ↦ none_saved l.saved l.w.depth l.w.place _ w.if-depth-eq0.true w.back-is
+      | else-depth-eq0 w ↦ saved_for_lem l.saved l.w.depth l.w.place _ w.if-depth-eq0.false w.back-is
+    ])
     c.turn-w.ensures
 
 pub returns : goal.returns

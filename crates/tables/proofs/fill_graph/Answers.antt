@@ -37,20 +37,20 @@ overflow_cast-start c =
 
 pub put_in-nodes-requires : goal.put_in-nodes-requires
 put_in-nodes-requires c =
-    record { letter_in_bounds = (left_rooms c.loop-at.invariant.nodes_left (turned (goal.at.put_in-nodes-requires c).After-read_row-r)).1.0; count_bound = few (goal.at.put_in-nodes-requires c).After-read_row-r; }
+    record { letter_in_bounds = (left_rooms c.loop-at.invariant.nodes_left (turned (goal.at.put_in-nodes-requires c).After-read_row-r)).1.0; count_bound = few (goal.at.put_in-nodes-requires c).After-read_row-r }
 
 pub put_in-edges-requires : goal.put_in-edges-requires
 put_in-edges-requires c =
-    record { letter_in_bounds = omega (arith, (left_rooms c.loop-at.invariant.nodes_left (turned (goal.at.put_in-edges-requires c).After-read_row-r)).0, c.put_in-nodes.auto.area); count_bound = few (goal.at.put_in-edges-requires c).After-read_row-r; }
+    record { letter_in_bounds = omega (arith, (left_rooms c.loop-at.invariant.nodes_left (turned (goal.at.put_in-edges-requires c).After-read_row-r)).0, c.put_in-nodes.auto.area); count_bound = few (goal.at.put_in-edges-requires c).After-read_row-r }
 
 pub put_in-properties-requires : goal.put_in-properties-requires
 put_in-properties-requires c =
-    record { letter_in_bounds = (left_rooms c.loop-at.invariant.properties_left (turned (goal.at.put_in-properties-requires c).After-read_row-r)).0; count_bound = few (goal.at.put_in-properties-requires c).After-read_row-r; }
+    record { letter_in_bounds = (left_rooms c.loop-at.invariant.properties_left (turned (goal.at.put_in-properties-requires c).After-read_row-r)).0; count_bound = few (goal.at.put_in-properties-requires c).After-read_row-r }
 
 pub put_values-values-requires : goal.put_values-values-requires
 put_values-values-requires c =
     let t = turned (goal.at.put_values-values-requires c).After-read_row-r in
-    record { at_in_bounds = c.loop-at-test.true; plain = t.here; r_value = c.read_row-r.ensures; at_in_bounds_2 = valued-room c.loop-at.invariant.values_left t; }
+    record { at_in_bounds = c.loop-at-test.true; plain = t.here; r_value = c.read_row-r.ensures; at_in_bounds_2 = valued-room c.loop-at.invariant.values_left t }
 
 pub loop-at-smaller : goal.loop-at-smaller
 loop-at-smaller c = let t = turned (goal.at.loop-at-smaller c).After-read_row-r in omega arith
@@ -102,4 +102,4 @@ pub returns : goal.returns
 returns c =
     let f = c.loop-at.invariant in
     let e = c.loop-at-test.false in
-    record { value = counts_end f e; g_after = nodes_all f e; p_after = properties-all f e; v_after = valued-all f.values_left e; }
+    record { value = counts_end f e; g_after = nodes_all f e; p_after = properties-all f e; v_after = valued-all f.values_left e }

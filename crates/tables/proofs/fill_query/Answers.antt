@@ -19,7 +19,7 @@ loop-at-init c =
 
 pub put_in-place-requires : goal.put_in-place-requires
 put_in-place-requires c =
-    record { letter_in_bounds = (left_rooms c.loop-at.invariant.left (turned (goal.at.put_in-place-requires c).After-read_row-r)).0; count_bound = omega (arith, turned-few (turned (goal.at.put_in-place-requires c).After-read_row-r), (turned (goal.at.put_in-place-requires c).After-read_row-r).inside, c.requires.s_len_bound); }
+    record { letter_in_bounds = (left_rooms c.loop-at.invariant.left (turned (goal.at.put_in-place-requires c).After-read_row-r)).0; count_bound = omega (arith, turned-few (turned (goal.at.put_in-place-requires c).After-read_row-r), (turned (goal.at.put_in-place-requires c).After-read_row-r).inside, c.requires.s_len_bound) }
 
 pub loop-at-smaller : goal.loop-at-smaller
 loop-at-smaller c = let t = turned (goal.at.loop-at-smaller c).After-read_row-r in omega arith
@@ -41,4 +41,4 @@ shape_of-area c = c.loop-at.invariant.left.same
 pub returns : goal.returns
 returns c =
     let f = c.loop-at.invariant in
-    record { value = omega (arith, query_end f c.loop-at-test.false); area_after = query-all f c.loop-at-test.false; }
+    record { value = omega (arith, query_end f c.loop-at-test.false); area_after = query-all f c.loop-at-test.false }

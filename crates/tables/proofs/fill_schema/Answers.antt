@@ -46,27 +46,27 @@ loop-at-init c =
 
 pub put_in-types-requires : goal.put_in-types-requires
 put_in-types-requires c =
-    record { letter_in_bounds = (left_rooms c.loop-at.invariant.left (turned (goal.at.put_in-types-requires c).After-read_row-r)).1.1.1.1.1.0; count_bound = few (goal.at.put_in-types-requires c).After-read_row-r; }
+    record { letter_in_bounds = (left_rooms c.loop-at.invariant.left (turned (goal.at.put_in-types-requires c).After-read_row-r)).1.1.1.1.1.0; count_bound = few (goal.at.put_in-types-requires c).After-read_row-r }
 
 pub put_in-fields-requires : goal.put_in-fields-requires
 put_in-fields-requires c =
-    record { letter_in_bounds = omega (arith, (left_rooms c.loop-at.invariant.left (turned (goal.at.put_in-fields-requires c).After-read_row-r)).1.1.1.1.0, long-1 (goal.at.put_in-fields-requires c).After-put_in-types); count_bound = few (goal.at.put_in-fields-requires c).After-read_row-r; }
+    record { letter_in_bounds = omega (arith, (left_rooms c.loop-at.invariant.left (turned (goal.at.put_in-fields-requires c).After-read_row-r)).1.1.1.1.0, long-1 (goal.at.put_in-fields-requires c).After-put_in-types); count_bound = few (goal.at.put_in-fields-requires c).After-read_row-r }
 
 pub put_in-args-requires : goal.put_in-args-requires
 put_in-args-requires c =
-    record { letter_in_bounds = omega (arith, (left_rooms c.loop-at.invariant.left (turned (goal.at.put_in-args-requires c).After-read_row-r)).1.1.1.0, long-2 (goal.at.put_in-args-requires c).After-put_in-fields); count_bound = few (goal.at.put_in-args-requires c).After-read_row-r; }
+    record { letter_in_bounds = omega (arith, (left_rooms c.loop-at.invariant.left (turned (goal.at.put_in-args-requires c).After-read_row-r)).1.1.1.0, long-2 (goal.at.put_in-args-requires c).After-put_in-fields); count_bound = few (goal.at.put_in-args-requires c).After-read_row-r }
 
 pub put_in-has-requires : goal.put_in-has-requires
 put_in-has-requires c =
-    record { letter_in_bounds = omega (arith, (left_rooms c.loop-at.invariant.left (turned (goal.at.put_in-has-requires c).After-read_row-r)).1.1.0, long-3 (goal.at.put_in-has-requires c).After-put_in-args); count_bound = few (goal.at.put_in-has-requires c).After-read_row-r; }
+    record { letter_in_bounds = omega (arith, (left_rooms c.loop-at.invariant.left (turned (goal.at.put_in-has-requires c).After-read_row-r)).1.1.0, long-3 (goal.at.put_in-has-requires c).After-put_in-args); count_bound = few (goal.at.put_in-has-requires c).After-read_row-r }
 
 pub put_in-takes-requires : goal.put_in-takes-requires
 put_in-takes-requires c =
-    record { letter_in_bounds = omega (arith, (left_rooms c.loop-at.invariant.left (turned (goal.at.put_in-takes-requires c).After-read_row-r)).1.0, long-4 (goal.at.put_in-takes-requires c).After-put_in-has); count_bound = few (goal.at.put_in-takes-requires c).After-read_row-r; }
+    record { letter_in_bounds = omega (arith, (left_rooms c.loop-at.invariant.left (turned (goal.at.put_in-takes-requires c).After-read_row-r)).1.0, long-4 (goal.at.put_in-takes-requires c).After-put_in-has); count_bound = few (goal.at.put_in-takes-requires c).After-read_row-r }
 
 pub put_in-members-requires : goal.put_in-members-requires
 put_in-members-requires c =
-    record { letter_in_bounds = omega (arith, (left_rooms c.loop-at.invariant.left (turned (goal.at.put_in-members-requires c).After-read_row-r)).0, long-5 (goal.at.put_in-members-requires c).After-put_in-takes); count_bound = few (goal.at.put_in-members-requires c).After-read_row-r; }
+    record { letter_in_bounds = omega (arith, (left_rooms c.loop-at.invariant.left (turned (goal.at.put_in-members-requires c).After-read_row-r)).0, long-5 (goal.at.put_in-members-requires c).After-put_in-takes); count_bound = few (goal.at.put_in-members-requires c).After-read_row-r }
 
 pub ask-queries-requires : goal.ask-queries-requires
 ask-queries-requires c =
@@ -129,4 +129,4 @@ shape_of-area c = c.loop-at.invariant.left.same
 pub returns : goal.returns
 returns c =
     let f = c.loop-at.invariant in
-    record { value = schema_counts f c.loop-at-test.false; area_after = schema-all f c.loop-at-test.false; }
+    record { value = schema_counts f c.loop-at-test.false; area_after = schema-all f c.loop-at-test.false }

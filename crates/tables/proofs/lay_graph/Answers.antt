@@ -25,7 +25,7 @@ value-long c =
 
 pub fill_graph-c-requires : goal.fill_graph-c-requires
 fill_graph-c-requires c =
-    record { s_len_bound = c.requires.s_len_bound; each = c.requires.each; graph_fits = c.requires.graph_fits; in_bounds = omega (arith, c.requires.in_bounds, c.clear.auto.area); in_bounds_2 = omega (arith, c.requires.in_bounds_2, c.clear-2.auto.area); in_bounds_3 = omega (arith, c.requires.in_bounds_3, c.clear-3.auto.area); }
+    record { s_len_bound = c.requires.s_len_bound; each = c.requires.each; graph_fits = c.requires.graph_fits; in_bounds = omega (arith, c.requires.in_bounds, c.clear.auto.area); in_bounds_2 = omega (arith, c.requires.in_bounds_2, c.clear-2.auto.area); in_bounds_3 = omega (arith, c.requires.in_bounds_3, c.clear-3.auto.area) }
 
 pub bounds-g-1 : goal.bounds-g-1
 bounds-g-1 c = simp length-set (omega (arith, node-long (goal.at.bounds-g-1 c).After-fill_graph-c))
@@ -46,5 +46,9 @@ pub returns : goal.returns
 unfolding graph_counts_of
 returns c =
     let counts = c.fill_graph-c.ensures.value in
-    record { g_after = node-laid _ _ _ _ c.clear.ensures _ _ (node-long (goal.at.returns c).After-fill_graph-c) c.fill_graph-c.ensures.g_after (ap (λ (x : GraphCounts). x.nodes) counts)
-          (ap (λ (x : GraphCounts). x.edges) counts); p_after = property-laid _ _ _ _ c.clear-2.ensures _ (property-long (goal.at.returns c).After-fill_graph-c) c.fill_graph-c.ensures.p_after (ap (λ (x : GraphCounts). x.properties) counts); v_after = value-laid _ _ _ _ c.clear-3.ensures _ (value-long (goal.at.returns c).After-fill_graph-c) c.fill_graph-c.ensures.v_after (ap (λ (x : GraphCounts). x.values) counts); }
+    record {
+      g_after = node-laid _ _ _ _ c.clear.ensures _ _ (node-long (goal.at.returns c).After-fill_graph-c) c.fill_graph-c.ensures.g_after (ap (λ (x : GraphCounts). x.nodes) counts)
+          (ap (λ (x : GraphCounts). x.edges) counts);
+      p_after = property-laid _ _ _ _ c.clear-2.ensures _ (property-long (goal.at.returns c).After-fill_graph-c) c.fill_graph-c.ensures.p_after (ap (λ (x : GraphCounts). x.properties) counts);
+      v_after = value-laid _ _ _ _ c.clear-3.ensures _ (value-long (goal.at.returns c).After-fill_graph-c) c.fill_graph-c.ensures.v_after (ap (λ (x : GraphCounts). x.values) counts);
+    }

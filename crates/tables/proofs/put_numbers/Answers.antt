@@ -31,7 +31,7 @@ shape_of-area-in_default c = c.loop-b.invariant.0.same
 pub returns-in_default : goal.returns-in_default
 returns-in_default c =
     let e = fault_left c.loop-b.invariant.1 c.loop-b-test.true c.number.ensures c.in_default.is in
-    record { value = putting_count c.loop-b.invariant.0 e; area_after = putting_all c.loop-b.invariant.0 e; }
+    record { value = putting_count c.loop-b.invariant.0 e; area_after = putting_all c.loop-b.invariant.0 e }
 
 pub offset_bounds-area-place : goal.offset_bounds-area-place
 offset_bounds-area-place c = let r = room (goal.at.offset_bounds-area-place c).Then-skip-before (next (goal.at.offset_bounds-area-place c).After-byte_at-b-in-loop-b) in search rules
@@ -60,4 +60,4 @@ shape_of-area c = c.loop-b.invariant.0.same
 pub returns : goal.returns
 returns c =
     let e = none_left c.loop-b.invariant.1 c.loop-b-test.false in
-    record { value = putting_count c.loop-b.invariant.0 e; area_after = putting_all c.loop-b.invariant.0 e; }
+    record { value = putting_count c.loop-b.invariant.0 e; area_after = putting_all c.loop-b.invariant.0 e }

@@ -31,14 +31,14 @@ overflow_add-nums c = let w : Fits w32 (get_or c.args.r.nums 3 0) = search rules
 
 pub put_numbers-requires : goal.put_numbers-requires
 put_numbers-requires c =
-    record { at_in_bounds = c.requires.at_in_bounds; plain = c.requires.plain; at_in_bounds_2 = omega (arith, c.requires.at_in_bounds_2, ap length (values (goal.at.put_numbers-requires c).After-nums-1)); }
+    record { at_in_bounds = c.requires.at_in_bounds; plain = c.requires.plain; at_in_bounds_2 = omega (arith, c.requires.at_in_bounds_2, ap length (values (goal.at.put_numbers-requires c).After-nums-1)) }
 
 pub returns-then-r-eq80 : goal.returns-then-r-eq80
 returns-then-r-eq80 c =
     let v = values (goal.at.returns-then-r-eq80 c).After-nums-1 in
-    record { value = c.put_numbers.ensures.value ∙ ap (λ (l : List ℕ). c.args.place + length l) v; area_after = c.put_numbers.ensures.area_after ∙ ap (λ (l : List ℕ). laid c.args.place l c.args.area.now) v; }
+    record { value = c.put_numbers.ensures.value ∙ ap (λ (l : List ℕ). c.args.place + length l) v; area_after = c.put_numbers.ensures.area_after ∙ ap (λ (l : List ℕ). laid c.args.place l c.args.area.now) v }
 
 pub returns : goal.returns
 returns c =
     let none = own-none _ _ _ (plain-read _ _ _ c.requires.plain c.requires.r_value) c.if-r-eq80.false in
-    record { value = omega (arith, ap length none); area_after = sym (ap (λ (l : List ℕ). laid c.args.place l c.args.area.now) none ∙ laid_nil c.args.place c.args.area.now); }
+    record { value = omega (arith, ap length none); area_after = sym (ap (λ (l : List ℕ). laid c.args.place l c.args.area.now) none ∙ laid_nil c.args.place c.args.area.now) }

@@ -14,12 +14,11 @@ pub loop-i-init : goal.loop-i-init
 loop-i-init c = (search rules, search rules, ap (accepts _) c.at-p.ensures)
 
 pub loop-i-preserved : goal.loop-i-preserved
-loop-i-preserved c =
-    (
-      search rules,
-      search rules,
-      ap (accepts _) c.step-p.ensures ∙ sym (accepts-more _ c.loop-i.i c.loop-i.p c.loop-i-test.true) ∙ c.loop-i.invariant.2,
-    )
+loop-i-preserved c = (
+  search rules,
+  search rules,
+  ap (accepts _) c.step-p.ensures ∙ sym (accepts-more _ c.loop-i.i c.loop-i.p c.loop-i-test.true) ∙ c.loop-i.invariant.2,
+)
 
 pub returns : goal.returns
 returns c =

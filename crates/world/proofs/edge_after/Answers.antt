@@ -16,7 +16,7 @@ pub row_along-requires : goal.row_along-requires
 unfolding cell
 row_along-requires c =
     let e = c.requires.edges_held in
-    record { table_held = nodes_table _ e.nodes; linked = e.links; query_held = c.requires.query_held; k_bound = c.requires.k_bound; on_chain = next-on _ _ _ _ e.links _ _ c.requires.e_bound c.requires.e_value _ c.next_row.ensures; }
+    record { table_held = nodes_table _ e.nodes; linked = e.links; query_held = c.requires.query_held; k_bound = c.requires.k_bound; on_chain = next-on _ _ _ _ e.links _ _ c.requires.e_bound c.requires.e_value _ c.next_row.ensures }
 
 pub returns : goal.returns
 unfolding edge_from cell

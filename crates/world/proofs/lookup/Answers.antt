@@ -26,7 +26,7 @@ overflow_cast-n c = omega (arith, c.requires.table_held.few)
 pub row_along-j-requires : goal.row_along-j-requires
 unfolding cell
 row_along-j-requires c =
-    record { table_held = c.requires.table_held; linked = c.requires.linked; query_held = c.requires.query_held; k_bound = c.requires.k_bound; on_chain = head-on _ _ _ _ c.requires.linked _ _ c.first_row.ensures; }
+    record { table_held = c.requires.table_held; linked = c.requires.linked; query_held = c.requires.query_held; k_bound = c.requires.k_bound; on_chain = head-on _ _ _ _ c.requires.linked _ _ c.first_row.ensures }
 
 pub returns-then-j-n : goal.returns-then-j-n
 unfolding cell

@@ -12,7 +12,7 @@ loop-j-init c = (refl, c.requires.on_chain)
 
 pub matches-requires : goal.matches-requires
 matches-requires c =
-    record { table_held = c.requires.table_held; query_held = c.requires.query_held; k_bound = c.requires.k_bound; j_lt_n = c.loop-j-test.true; }
+    record { table_held = c.requires.table_held; query_held = c.requires.query_held; k_bound = c.requires.k_bound; j_lt_n = c.loop-j-test.true }
 
 pub returns-then-matches : goal.returns-then-matches
 returns-then-matches c =
@@ -21,7 +21,7 @@ returns-then-matches c =
 pub next_row-j-requires : goal.next_row-j-requires
 next_row-j-requires c =
     let k = c.requires.linked in
-    record { at_in_bounds = omega (arith, k.long); at_bound = omega (arith, k.low); j_bound = omega (arith, k.keyed.few); }
+    record { at_in_bounds = omega (arith, k.long); at_bound = omega (arith, k.low); j_bound = omega (arith, k.keyed.few) }
 
 pub loop-j-smaller : goal.loop-j-smaller
 loop-j-smaller c =

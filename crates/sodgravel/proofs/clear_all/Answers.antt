@@ -1,16 +1,16 @@
 -- `sodgravel::clear_all` meets its contract: each area is cleared by its own call. Assumes nothing.
-use borrow.Author.Rules.{rules}
 use Rattle.sodgravel.specs.Cleared.{cleared}
-use Rattle.response.proofs.Passing.{◌then◌}
 use Rattle.sodgravel.proofs.clear_all.Goals as goal
 
 pub returns : goal.returns
 unfolding cleared
 returns c =
-    c.clear.ensures
-    then c.clear-2.ensures
-    then c.clear-3.ensures
-    then c.clear-4.ensures
-    then c.clear-5.ensures
-    then c.clear-6.ensures
-    then c.clear_rows.ensures
+    record {
+      a_after = c.clear.ensures;
+      g_after = c.clear-2.ensures;
+      p_after = c.clear-3.ensures;
+      v_after = c.clear-4.ensures;
+      ix_after = c.clear-5.ensures;
+      q_after = c.clear-6.ensures;
+      m_after = c.clear_rows.ensures;
+    }

@@ -21,11 +21,20 @@ returns-then-b-ne0 c =
 pub lay_query-requires : goal.lay_query-requires
 lay_query-requires c =
     let text = open-text (goal.at.lay_query-requires c).Else-b-ne0 in
-    record { s_len_bound = text.short; each = text.plain; s_len_bound_2 = fits_31 c.args.s.now text; in_bounds = c.requires.in_bounds }
+    record {
+      s_len_bound = text.short;
+      each = text.plain;
+      s_len_bound_2 = fits_31 c.args.s.now text;
+      in_bounds = c.requires.in_bounds;
+    }
 
 pub judge_entries-requires : goal.judge_entries-requires
 judge_entries-requires c =
-    record { schema_held = c.requires.schema_held; query_held = laid-held c.args.s.now (open-text (goal.at.judge_entries-requires c).Else-b-ne0) (length c.args.q.now) c.requires.in_bounds c.lay_query.ensures }
+    let text = open-text (goal.at.judge_entries-requires c).Else-b-ne0 in
+    record {
+      schema_held = c.requires.schema_held;
+      query_held = laid-held c.args.s.now text (length c.args.q.now) c.requires.in_bounds c.lay_query.ensures;
+    }
 
 pub returns : goal.returns
 returns c =

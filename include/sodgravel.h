@@ -5,7 +5,7 @@
  * and nothing else. There are three calls. sodgravel_size tells how long the response to a query is; sodgravel_answer writes it;
  * sodgravel_judge says whether one response is another one shortened.
  *
- * What is promised, and proved for every input (the contracts in crates/sodgravel/src/exports.rt):
+ * What is promised, and proved for every input (the contracts in crates/sodgravel_c/src/lib.rt):
  *
  *   - Every call returns. It accepts with number 0, or refuses with one of the numbers below, at the place that the rules fix.
  *     Judging says yes or no with number 0.

@@ -10,15 +10,18 @@ text too. The form of a name says what has to be there:
 
     a/b   b.ext     a file or a folder: from the repository on, or from the folder of the document, of its crate, of the crate that
                     begins its row of a table, or of all crates; .antt may be left out. CRATE, NAME and FUNCTION stand for any.
-                    What begins with ../shared is outside, and looked for only where that folder is; a target/ is built
+                    What begins with ../shared is outside, and looked for only where that folder is; an out/ or a target/ is built
     crate/edit      an edit of a crate
     a::b   a::b::c  what src/ of the crate a defines: functions, types, methods, variants, constants; those of a module under its name
     A.b             a field of the record A, a method of the class A
     rt x            a command of rt
-    name            what the repository defines: definitions, theorems, constructors and fields of antt; functions, parameters, types,
-                    variants, fields and constants of Rattle; names of C, Rust, Python and shell; crates, modules, edits, scripts; and
-                    what a module uses of antt's library. To be mentioned is not enough. A comment may name besides what stands
-                    in the code of its file or in src/ of its crate: variables. one-* is any name that begins so
+    name            what the repository defines: definitions, theorems, constructors, fields and answered goals of antt; functions,
+                    parameters, clauses, types, variants, fields and constants of Rattle; names of C, Rust, Python and shell; crates,
+                    modules, edits, scripts; and what a module uses of the library, that is of no crate here. To be mentioned is not
+                    enough. A comment may name besides what stands in the code of its file or in src/ of its crate: variables.
+                    one-* is any name that begins so
+    Rattle.a.specs.M   Rattle.a.proofs.M
+                    a module of the crate a; or Goals and Given, which rattle writes for each function
     name (Module)   defined in a module of that name, or in a record of that name. (crate: Module): in that crate's. (`path`), or
                     in `path`: in that file or folder. Several names with commas between them are all meant
     FILE, 'part'    a document, and a heading in it that begins with these words
@@ -30,6 +33,7 @@ modules. In the table of docs/WRONG_ANSWERS.md the first column names functions 
 edits; the last is what the prover printed, and is not looked at.
 
 A document may name what is no longer there: `name` (gone), or several names with commas between them and (gone) behind the last.
+docs/PORT.md tells what other kits called things, and is not read.
 
 Of an edit each `old:` stands exactly once in the file of its crate that `file:` names, as the pairs before it leave that file. What
 stands before the dot in the name of one of tests/wrong_answers is a function of the crate.
@@ -46,16 +50,18 @@ import tempfile
 import tokenize
 
 PLAIN = {
-    "words of the languages": "abbrev break ensures fn let match mutual pub requires return unfoldable u8 u32 u64 usize size_t sret",
+    "words of the languages": "abbrev break elim ensures fn let match mutual pub requires return unfoldable u8 u32 u64 usize size_t sret",
     "what proves, and ways of proving": "antt rattle rt cc omega search simp",
     "other programs, and a type of one": "cargo gcc git nm valgrind graphql-core Int",
     "what the commands print, and read": "ok no yes refused",
 }
 EXEMPT = {word for words in PLAIN.values() for word in words.split()}
-COMMANDS = "check prove dev staticlib try must-fail ci goals mir fmt doc version selftest".split()
+COMMANDS = "check verdict lib run test try fmt tidy plant expand seed lemma names new all ci must-fail selftest doc version".split()
 FOLDERS = "docs crates tests rust scripts examples include .ci".split()
 ENDINGS = tuple(".md .antt .rt .rs .c .h .py .sh .awk .txt .edit .toml .a".split())
-SKIPPED = (".git", "target", "__pycache__")
+BUILT = ("out", "target")
+SKIPPED = (".git", "__pycache__", *BUILT)
+OF_OTHER_KITS = ("docs/PORT.md",)
 
 # ---- the forms of names
 
@@ -73,12 +79,14 @@ GONE = re.compile(r"(%s) \(gone\)" % RUN)
 PLACED = re.compile(r"(%s) \((?:([a-z_]+): )?([A-Z]\w*(?:, [A-Z]\w*)*|src/\w+\.rt|(?:specs|proofs)/\w+)\)" % RUN)
 IN_FILE = re.compile(r"(%s) (?:\(|in )`(crates/[^`]+)`" % RUN)
 OF_CRATE = re.compile(r"\(([a-z_]+): ([A-Z]\w*|src/\w+\.rt|(?:specs|proofs)/\w+)\)")
-IN_ANTT = re.compile(r"Rattle·(\w+?)(?:·\w+)?\.((?:specs|proofs)\.[\w.]*\w)")
+IN_ANTT = re.compile(r"\bRattle\.(\w+)\.((?:specs|proofs)\.[\w.+]*\w)")
+MADE = re.compile(r"\.(?:Given|Goals)$")
 PART = re.compile(r"((?:docs/)?\w+\.md)`?, '([^']+)'")
 
 # ---- the forms of definitions, by the ending of a file ('' for a command)
 
-SIGNED = r"^ *(?:(?:pub|abbrev|unfoldable) +)*([^\s(){}:;,.λ]+) +:(?=\s)"
+SIGNED = r"^ *(?:(?:pub|abbrev|unfoldable|opaque) +)*([^\s(){}:;,.λ]+) +:(?=\s)"
+CLAUSE = r"^ *(?:requires|ensures) (\w+) \{"
 FUNCTION = r"^ *(?:pub(?:\(\w+\))? )?(?:const |unsafe |extern \"C\" )*fn (\w+)"
 ITEM = r"^ *(?:pub(?:\(\w+\))? )?(?:struct|enum|trait|type|const|static|mod) (\w+)"
 CONSTANT = r"\b([A-Z][A-Z0-9]*_[A-Z0-9_]+)\b"
@@ -86,7 +94,7 @@ OF_C = [r"^[a-z][\w *]*?\b(\w+)\(", r"^#define (\w+)", r"^(?:typedef )?(?:enum|s
 OF_SHELL = [r"^ *(?:function )?(\w+) ?\(", r"^ *(?:local |export |readonly )?(\w+)=", CONSTANT]
 DEFINES = {
     ".antt": [SIGNED, r"^ *(?:pub +)?(?:record|data|ruleset) +([^\s(){}:;,.]+)"],
-    ".rt": [FUNCTION, ITEM, r"\b([a-z]\w*): "],
+    ".rt": [FUNCTION, ITEM, CLAUSE, r"\b([a-z]\w*): "],
     ".rs": [FUNCTION, ITEM, CONSTANT],
     ".c": OF_C,
     ".h": OF_C,
@@ -99,7 +107,8 @@ OF_TYPE = r"^( *)(?:pub(?:\(\w+\))? )?(?:struct|enum|trait|impl(?:<[^>]*>)?(?: [
 OWNERS = {".antt": r"^( *)(?:pub +)?(?:record|data) +([^\s(){}:;,.]+)", ".rt": OF_TYPE, ".rs": OF_TYPE, ".py": r"^( *)class (\w+)"}
 IN_TYPE = [FUNCTION, r"^ +(?:pub(?:\(\w+\))? )?(\w+):", r"^ +([A-Z]\w*)(?= *[,({=]|$)"]
 MEMBERS = {".antt": [SIGNED], ".rt": IN_TYPE, ".rs": IN_TYPE, ".py": [r"^ *def (\w+)"]}
-USED = re.compile(r"^(?:ghost |pub )*use (?!Rattle·)[^\s{]+\.\{([^}]*)\}", re.M)
+USED = re.compile(r"^ *(?:ghost |pub )*use ([\w.+-]+)\.\{([^}]*)\}", re.M)
+OF_RATTLE = re.compile(r"Rattle\.(\w+)\.")
 
 
 # ---- files: what is comment in them, and what is code
@@ -189,6 +198,7 @@ class Names:
         self.sources = {}  # a crate: what its src/ defines; in a module, module::name
         self.edits = {}  # crate/edit: its file
         self.said = {}  # a file: the words of its code
+        self.crates = os.listdir(os.path.join(root, "crates"))
         for path in files_of(root):
             self.add(path)
 
@@ -221,8 +231,10 @@ class Names:
             self.edits[f"{parts[1] if parts[0] == 'crates' else parts[2]}/{stem}"] = path
         for pattern in DEFINES.get(ending, []):
             self.define(path, re.findall(pattern, code, re.M))
-        for names in USED.findall(code):
-            self.define("antt's library", re.findall(r"[^\s,]+", names))
+        for module, names in USED.findall(code):
+            of = OF_RATTLE.match(module + ".")
+            if not of or of.group(1) not in self.crates:
+                self.define("the library", re.findall(r"[^\s,]+", names))
         members = members_in(code, ending)
         for owner, member in members:
             self.members.setdefault(owner, set()).add(member)
@@ -303,6 +315,8 @@ class Finder:
     def run(self):
         """All findings, in order."""
         for path, lines in self.names.comments.items():
+            if path in OF_OTHER_KITS:
+                continue
             for number, line in lines:
                 self.where = (path, number)
                 self.line(path, line)
@@ -333,8 +347,9 @@ class Finder:
             if of in self.names.sources and not self.names.modules(of, module):
                 self.report(f"({of}: {module}): crates/{of} has no such module")
         for of, module in IN_ANTT.findall(line):
-            if not self.names.has_path(module.replace(".", "/"), [f"crates/{of}"]):
-                self.report(f"Rattle·{of}.{module}: no such module")
+            file = MADE.sub("", module).replace(".", "/")
+            if of in self.names.crates and not self.names.has_path(file, [f"crates/{of}"]):
+                self.report(f"Rattle.{of}.{module}: no such module")
         for other, part in PART.findall(line):
             text = self.names.texts.get(other) or self.names.texts.get(f"docs/{other}", "")
             if not any(head.startswith(part) for head in re.findall(r"^#+ (.*)", text, re.M)):
@@ -393,7 +408,7 @@ class Finder:
         if span.startswith("../shared"):
             if os.path.isdir(os.path.join(outside, "shared")) and not os.path.exists(os.path.join(outside, span[3:])):
                 self.report(f"`{span}`: no such file")
-        elif "target" not in span.split("/") and span not in self.names.edits:
+        elif not set(BUILT).intersection(span.split("/")) and span not in self.names.edits:
             parts = self.where[0].split("/")[:-1]
             bases = ["/".join(parts[:n]) for n in range(len(parts) + 1)] + ["crates"] + ([f"crates/{crate}"] if crate else [])
             if not self.names.has_path(span, bases):
@@ -469,15 +484,17 @@ class Finder:
 def wrong_lines(names):
     """Lines for the ends of files, and whether they must be reported."""
     crate, edit = min(names.sources), min(names.edits)
-    laws = [(name, file) for name, files in names.defined.items() for file in files if re.fullmatch(r"[a-z]+-[a-z-]+", name)]
-    theorem, file = min(law for law in laws if "/proofs/" in law[1])
+    laws = [(name, file) for name, files in names.defined.items() for file in files if re.fullmatch(r"[a-z]+[_-][a-z_-]+", name)]
+    theorem, file = min(law for law in laws if re.fullmatch(r"crates/\w+/proofs/\w+\.antt", law[1]))
+    law = "Rattle." + file[len("crates/") : -len(".antt")].replace("/", ".")
     function = "::".join(min((one, name) for one, found in names.sources.items() for name in found if "::" not in name))
     wrong = ["`docs/no_such.md`", "`no_such.md`", "docs/no_such.md", f"`{crate}/no_such_edit`", f"`{crate}::no_such_function`"]
-    wrong += ["`noSuchDefinition`", "`no-such-theorem`", "`no-such-*`", "`f no_such_thing`", "`Names.no_such_method`", "`rt no-such-command`"]
+    wrong += ["`no_such_definition`", "`noSuchName`", "`no-such-theorem`", "`no-such-*`", "`f no_such_thing`", "`Names.no_such_method`"]
+    wrong += ["`rt no-such-command`", f"`Rattle.{crate}.specs.NoSuchModule`"]
     wrong += [f"`{theorem}` (NoSuchModule)", f"`{theorem}` (`crates/{crate}/src`)", f"({crate}: NoSuchModule)"]
     wrong += ["docs/DECISIONS.md, 'No such part'"]
     right = ["`README.md`", "docs/DECISIONS.md", f"`{edit}`", f"`{function}`", f"`{theorem}`", f"`{theorem}` (`{file}`)", "`Names.words`"]
-    right += ["`noSuchName`, `no_such` (gone)", "`rt ci`", "docs/DECISIONS.md, 'Shape'", "`E 0 1 2 0`", "`{`", "`M`", "`L3`", "`ensures`"]
+    right += ["`noSuchName`, `no_such` (gone)", "`rt ci`", f"`{law}`", "docs/DECISIONS.md, 'Shape'", "`E 0 1 2 0`", "`{`", "`M`", "`L3`", "`ensures`"]
     yield from (("docs/wrong.md", line, True) for line in wrong)
     yield from (("docs/wrong.md", line, False) for line in right)
     for ending, form in {".antt": "-- %s", ".rt": "// %s", ".rs": "/// %s", ".c": "/* %s */", ".h": "/* %s */"}.items():
@@ -489,7 +506,7 @@ def wrong_lines(names):
 def in_comments(names, ending, form):
     """Comments for a file with an ending."""
     file = min(path for path in names.texts if ending_of(path) == ending)
-    return [(file, form % "`noSuchDefinition`", True), (file, form % "docs/no_such.md", True), (file, form % "`README.md`", False)]
+    return [(file, form % "`no_such_definition`", True), (file, form % "docs/no_such.md", True), (file, form % "`README.md`", False)]
 
 
 def wrong_edits(names):
@@ -503,7 +520,7 @@ def wrong_edits(names):
     yield f"crates/{crate}/must-fail/nowhere.edit", "# it is not there\nfile: src/lib.rt\nold: no such line\nnew: x\n", 3
     yield f"crates/{crate}/must-fail/again.edit", f"# it is edited already\nfile: src/lib.rt\nold: {once}\nnew: x\nold: {once}\nnew: y\n", 5
     yield f"crates/{crate}/must-fail/no_file.edit", f"# no such file\nfile: src/no_such.rt\nold: {once}\nnew: x\n", 2
-    yield f"crates/{crate}/must-fail/comment.edit", f"# `noSuchDefinition`\nfile: src/lib.rt\nold: {once}\nnew: x\n", 1
+    yield f"crates/{crate}/must-fail/comment.edit", f"# `no_such_definition`\nfile: src/lib.rt\nold: {once}\nnew: x\n", 1
     yield f"tests/wrong_answers/{crate}/{function}.nowhere.edit", "# it is not there\nfile: src/lib.rt\nold: no such line\nnew: x\n", 3
     yield f"tests/wrong_answers/{crate}/no_such_function.right.edit", f"# no such function\nfile: src/lib.rt\nold: {once}\nnew: x\n", 1
 

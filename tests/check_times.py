@@ -2,6 +2,8 @@
 
     bash .ci/run 2>&1 | tee gate.log
     python3 tests/check_times.py gate.log      prints seconds by crate and by must-fail edit, as two tables
+
+It reads what the gate printed under the older kit (docs/CHECKING.md): today's kit prints no seconds.
 """
 import re
 import sys

@@ -1,4 +1,4 @@
--- The check with a number: what its function may ask of a line, and what its answer says. Laws shaped like the needs. Assumes nothing.
+-- The check with a number: what its function may ask of a line, and what its answer says. Laws shaped like the goals. Assumes nothing.
 use Prim.Native.Nat.{ℕ, ◌+◌, ◌*◌, ◌%◌, ◌≤◌, ◌<◌}
 use native.Mathlib.Omega.{arith}
 use mathlib.Core.Path.{◌≡◌, sym, ap, ◌∙◌}

@@ -1,5 +1,5 @@
-// The thin line reader: a text and the position of a line in it. Its functions are few, each proved by a walk by hand; what they
-// do with the text is done by functions over plain slices.
+// The thin line reader: a text and the position of a line in it. Its functions are few; what they do with the text is done
+// by functions over plain slices.
 ghost use Rattle.std.specs.Prelude.{◌≡◌};
 ghost use Rattle.text.specs.Line.{row_at};
 

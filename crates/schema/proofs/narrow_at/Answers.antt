@@ -1,4 +1,4 @@
--- `schema::narrow_at_lem` meets its contract. Whether the row is there decides. Assumes nothing.
+-- `schema::narrow_at` meets its contract. Whether the row is there decides. Assumes nothing.
 use borrow.Author.Rules.{rules}
 use Rattle.tables.specs.Read.{cell}
 use Rattle.schema.proofs.Letters.{cell_laws}

@@ -2,99 +2,113 @@
 // response, one token to a line. 01 has the form of both ('The sample unit'), and `data` and `stdout` have its sample.
 #![tactic(auto)]
 
-ghost use Rattle.std.specs.Prelude.{◌≤◌, length};
-ghost use Rattle.io.specs.Counts.{IsPrefixLen};
+ghost use Rattle.std.specs.Prelude.{◌≡◌, ◌≤◌, length, take};
 
-use libc::STDOUT_FILENO;
 use rules::{LABELS, Outcome};
+use std::io::Read;
+use std::rt::Files;
+use std::{fs, io};
 
 // The room that the program gives, and the response buffer's length.
 const ROOM: usize = 16384;
 
+// A text has at most 65,535 bytes. The buffers hold one more, so that a longer file is seen to be too long.
+const TEXT_BUFFER: usize = 65536;
+
 // From here on tokens are the marks; below LABELS they are values, and between the two labels.
 const MARKS: u32 = 2_000_000_000;
 
-// Reads the start of a file, as much as `text` holds, and answers its length. A file that cannot be opened counts as empty.
-fn read_text(path: &[u8], text: &mut [u8]) -> usize
-    ensures { IsPrefixLen result text.new }
+// Reads until `text` is full, the input ends or a read fails, and answers how many bytes stand at the start of `text`.
+fn read_full(input: &mut impl Read, text: &mut [u8]) -> usize
+    ensures in_bounds { result ≤ length text.new }
+    ensures taken { result ≡ length (take result text.new) }
 {
-    let file = os::open_read(path);
-    if file < 0 {
-        return 0;
+    let mut done = 0;
+    while done < text.len() {
+        let count = input.read(&mut text[done..]).unwrap_or(0);
+        if count == 0 {
+            break;
+        }
+        done += count;
     }
-    let length = io::read_full(file, text);
-    libc::close(file);
-    length
+    done
+}
+
+// Reads the start of a file, as much as `text` holds, and answers its length. A file that cannot be opened counts as empty.
+fn read_text<R: Files>(rt: &R, path: &str, text: &mut [u8]) -> usize
+    ensures in_bounds { result ≤ length text.new }
+    ensures taken { result ≡ length (take result text.new) }
+{
+    match fs::open(rt, path) {
+        Ok(mut file) => read_full(&mut file, text),
+        Err(_) => 0,
+    }
 }
 
 // Writes a tab and a number: a further field of a line.
-fn print_field(number: u32) {
-    io::write_all(STDOUT_FILENO, b"\t");
-    io::print_decimal(STDOUT_FILENO, number as u64);
+fn print_field(rt: &impl Print, number: u32) -> io::Result<()> {
+    print!(rt; "\t{number}")
 }
 
 // Writes the whole of a refusal.
-fn print_refusal(outcome: Outcome) {
-    io::write_all(STDOUT_FILENO, b"no");
-    print_field(outcome.number);
-    print_field(outcome.place);
-    print_field(outcome.size);
-    print_field(outcome.visits);
-    io::write_all(STDOUT_FILENO, b"\n");
+fn print_refusal(rt: &impl Print, outcome: Outcome) -> io::Result<()> {
+    print!(rt; "no")?;
+    print_field(rt, outcome.number)?;
+    print_field(rt, outcome.place)?;
+    print_field(rt, outcome.size)?;
+    print_field(rt, outcome.visits)?;
+    println!(rt)
 }
 
 // Writes the first line of an answer.
-fn print_head(outcome: Outcome) {
-    io::write_all(STDOUT_FILENO, b"ok");
-    print_field(outcome.size);
-    print_field(outcome.visits);
-    io::write_all(STDOUT_FILENO, b"\n");
+fn print_head(rt: &impl Print, outcome: Outcome) -> io::Result<()> {
+    print!(rt; "ok")?;
+    print_field(rt, outcome.size)?;
+    print_field(rt, outcome.visits)?;
+    println!(rt)
 }
 
 // Writes the line of a label or a value: its letter, and the number.
-fn print_lettered(letter: &[u8], number: u32) {
-    io::write_all(STDOUT_FILENO, letter);
-    print_field(number);
-    io::write_all(STDOUT_FILENO, b"\n");
+fn print_lettered(rt: &impl Print, letter: char, number: u32) -> io::Result<()> {
+    print!(rt; "{letter}")?;
+    print_field(rt, number)?;
+    println!(rt)
 }
 
 // Writes the line of a bracket or of null.
-fn print_mark(mark: u32) {
-    if mark == 1 {
-        io::write_all(STDOUT_FILENO, b"{\n");
-    } else if mark == 2 {
-        io::write_all(STDOUT_FILENO, b"}\n");
-    } else if mark == 3 {
-        io::write_all(STDOUT_FILENO, b"[\n");
-    } else if mark == 4 {
-        io::write_all(STDOUT_FILENO, b"]\n");
-    } else {
-        io::write_all(STDOUT_FILENO, b"N\n");
+fn print_mark(rt: &impl Print, mark: u32) -> io::Result<()> {
+    match mark {
+        1 => println!(rt; "{{"),
+        2 => println!(rt; "}}"),
+        3 => println!(rt; "["),
+        4 => println!(rt; "]"),
+        _ => println!(rt; "N"),
     }
 }
 
 // Writes the line of a token.
-fn print_token(token: u32) {
+fn print_token(rt: &impl Print, token: u32) -> io::Result<()> {
     if token < LABELS {
-        print_lettered(b"V", token);
+        print_lettered(rt, 'V', token)
     } else if token < MARKS {
-        print_lettered(b"L", token - LABELS);
+        print_lettered(rt, 'L', token - LABELS)
     } else {
-        print_mark(token - MARKS);
+        print_mark(rt, token - MARKS)
     }
 }
 
 // Writes the first `size` tokens of a response buffer.
-fn print_response(buffer: &[u32], size: u32)
+fn print_response(rt: &impl Print, buffer: &[u32], size: u32) -> io::Result<()>
     requires { size ≤ length buffer.now }
 {
     for i in 0..size as usize {
-        print_token(buffer[i]);
+        print_token(rt, buffer[i])?;
     }
+    Ok(())
 }
 
 // Answers three texts.
-fn answer_texts(schema: &[u8], graph: &[u8], query: &[u8]) {
+fn answer_texts(rt: &impl Print, schema: &[u8], graph: &[u8], query: &[u8]) -> io::Result<()> {
     let mut a = [0u32; 14728];
     let mut g = [0u32; 15880];
     let mut p = [0u32; 14344];
@@ -118,24 +132,23 @@ fn answer_texts(schema: &[u8], graph: &[u8], query: &[u8]) {
         &mut buffer,
     );
     if outcome.number != 0 {
-        print_refusal(outcome);
-        return;
+        return print_refusal(rt, outcome);
     }
-    print_head(outcome);
-    print_response(&buffer, outcome.size);
+    print_head(rt, outcome)?;
+    print_response(rt, &buffer, outcome.size)
 }
 
-// A text has at most 65,535 bytes. The buffers hold one more, so that a longer file is seen to be too long.
-fn main() {
-    let mut schema = io::large_buffer();
-    let mut graph = io::large_buffer();
-    let mut query = io::large_buffer();
-    let schema_length = read_text(b"schema.txt", &mut schema);
-    let graph_length = read_text(b"graph.txt", &mut graph);
-    let query_length = read_text(b"query.txt", &mut query);
+fn main(rt: HostRuntime) -> io::Result<()> {
+    let mut schema = [0u8; TEXT_BUFFER];
+    let mut graph = [0u8; TEXT_BUFFER];
+    let mut query = [0u8; TEXT_BUFFER];
+    let schema_length = read_text(&rt, "schema.txt", &mut schema);
+    let graph_length = read_text(&rt, "graph.txt", &mut graph);
+    let query_length = read_text(&rt, "query.txt", &mut query);
     answer_texts(
+        &rt,
         &schema[..schema_length],
         &graph[..graph_length],
         &query[..query_length],
-    );
+    )
 }

@@ -12,10 +12,29 @@
 #![tactic(auto)]
 
 ghost use Rattle.std.specs.Prelude.{◌≤◌, length};
-ghost use Rattle.io.specs.Counts.{IsPrefixLen};
+ghost use Rattle.std.specs.Io.{ReadsAtMost};
 
-use libc::{STDIN_FILENO, STDOUT_FILENO};
 use rules::Outcome;
+use std::io;
+use std::io::{BufReader, Read};
+
+// How many bytes of a text are kept: one more than a text may have, so that a longer one is seen to be too long.
+const TEXT_BUFFER: usize = 65536;
+
+// Reads until `bytes` is full or the input ends, and answers how many bytes stand at the start of `bytes`.
+fn read_full(input: &mut impl Read, bytes: &mut [u8]) -> io::Result<usize>
+    ensures { ReadsAtMost result bytes.new }
+{
+    let mut done = 0;
+    while done < bytes.len() {
+        let count = input.read(&mut bytes[done..])?;
+        if count == 0 {
+            break;
+        }
+        done += count;
+    }
+    Ok(done)
+}
 
 // The number that ten digits show, if it is below 2 to the 32nd; what remains of a larger one.
 fn shown(digits: &[u8; 11]) -> u32 {
@@ -26,11 +45,11 @@ fn shown(digits: &[u8; 11]) -> u32 {
     (number % 4_294_967_296) as u32
 }
 
-// Reads a number.
-fn read_number() -> u32 {
+// Reads a number. What the input no longer has of it counts as zeros.
+fn read_number(input: &mut impl Read) -> io::Result<u32> {
     let mut digits = [0u8; 11];
-    io::read_full(STDIN_FILENO, &mut digits);
-    shown(&digits)
+    read_full(input, &mut digits)?;
+    Ok(shown(&digits))
 }
 
 // The number, or `most` where that is less.
@@ -43,51 +62,53 @@ fn capped(number: u32, most: usize) -> usize
 }
 
 // Reads how much of an area the case lends.
-fn read_length(area: &[u32]) -> usize
-    ensures { IsPrefixLen result area.now }
+fn read_length(input: &mut impl Read, area: &[u32]) -> io::Result<usize>
+    ensures { ReadsAtMost result area.now }
 {
-    capped(read_number(), area.len())
+    Ok(capped(read_number(input)?, area.len()))
 }
 
 // The same of the rows of multiplicities.
-fn read_wide_length(area: &[u64]) -> usize
-    ensures { IsPrefixLen result area.now }
+fn read_wide_length(input: &mut impl Read, area: &[u64]) -> io::Result<usize>
+    ensures { ReadsAtMost result area.now }
 {
-    capped(read_number(), area.len())
+    Ok(capped(read_number(input)?, area.len()))
 }
 
 // Reads a text with its length, and answers the length.
-fn read_text(text: &mut [u8]) -> usize
-    ensures { IsPrefixLen result text.new }
+fn read_text(input: &mut impl Read, text: &mut [u8]) -> io::Result<usize>
+    ensures { ReadsAtMost result text.new }
 {
-    let length = io::count(read_number() as isize, text);
-    io::read_full(STDIN_FILENO, &mut text[..length]);
-    length
+    let length = capped(read_number(input)?, text.len());
+    read_full(input, &mut text[..length])?;
+    Ok(length)
 }
 
 // Reads as many tokens as are wanted.
-fn fill(tokens: &mut [u32]) {
-    for i in 0..tokens.len() {
-        tokens[i] = read_number();
+fn fill(input: &mut impl Read, tokens: &mut [u32]) -> io::Result<()> {
+    for token in tokens {
+        *token = read_number(input)?;
     }
+    Ok(())
 }
 
 // Reads past `count` numbers.
-fn skip(count: u32) {
+fn skip(input: &mut impl Read, count: u32) -> io::Result<()> {
     for _ in 0..count {
-        read_number();
+        read_number(input)?;
     }
+    Ok(())
 }
 
 // Reads how many tokens a sequence has, and the tokens, of which no more are kept than there is room for; answers how many are kept.
-fn read_tokens(tokens: &mut [u32]) -> usize
-    ensures { IsPrefixLen result tokens.new }
+fn read_tokens(input: &mut impl Read, tokens: &mut [u32]) -> io::Result<usize>
+    ensures { ReadsAtMost result tokens.new }
 {
-    let count = read_number();
+    let count = read_number(input)?;
     let kept = capped(count, tokens.len());
-    fill(&mut tokens[..kept]);
-    skip(count - kept as u32);
-    kept
+    fill(input, &mut tokens[..kept])?;
+    skip(input, count - kept as u32)?;
+    Ok(kept)
 }
 
 // 1 where something is so, and 0 where it is not.
@@ -102,8 +123,8 @@ fn count_nonzero(area: &[u32]) -> usize
     ensures { result ≤ length area.now }
 {
     let mut count: usize = 0;
-    for i in 0..area.len() {
-        count += one_if(area[i] != 0);
+    for number in area {
+        count += one_if(*number != 0);
     }
     count
 }
@@ -113,8 +134,8 @@ fn count_wide_nonzero(area: &[u64]) -> usize
     ensures { result ≤ length area.now }
 {
     let mut count: usize = 0;
-    for i in 0..area.len() {
-        count += one_if(area[i] != 0);
+    for number in area {
+        count += one_if(*number != 0);
     }
     count
 }
@@ -127,39 +148,48 @@ fn mixed(digest: u64, number: u32) -> u64 {
 // A number that depends on every number of a buffer and on where it stands.
 fn digest(buffer: &[u32]) -> u64 {
     let mut sum: u64 = 0;
-    for i in 0..buffer.len() {
-        sum = mixed(sum, buffer[i]);
+    for number in buffer {
+        sum = mixed(sum, *number);
     }
     sum
 }
 
 // Writes a tab and a number.
-fn print_field(number: u64) {
-    io::write_all(STDOUT_FILENO, b"\t");
-    io::print_decimal(STDOUT_FILENO, number);
+fn print_field(rt: &impl Print, number: u64) -> io::Result<()> {
+    print!(rt; "\t{number}")
 }
 
 // Writes what a call returned.
-fn print_outcome(outcome: Outcome) {
-    print_field(outcome.number as u64);
-    print_field(outcome.place as u64);
-    print_field(outcome.size as u64);
-    print_field(outcome.visits as u64);
+fn print_outcome(rt: &impl Print, outcome: Outcome) -> io::Result<()> {
+    print_field(rt, u64::from(outcome.number))?;
+    print_field(rt, u64::from(outcome.place))?;
+    print_field(rt, u64::from(outcome.size))?;
+    print_field(rt, u64::from(outcome.visits))
 }
 
 // Writes how many numbers of each area are not zero.
-fn print_left(a: &[u32], g: &[u32], p: &[u32], v: &[u32], ix: &[u32], q: &[u32], m: &[u64]) {
-    print_field(count_nonzero(a) as u64);
-    print_field(count_nonzero(g) as u64);
-    print_field(count_nonzero(p) as u64);
-    print_field(count_nonzero(v) as u64);
-    print_field(count_nonzero(ix) as u64);
-    print_field(count_nonzero(q) as u64);
-    print_field(count_wide_nonzero(m) as u64);
+fn print_left(
+    rt: &impl Print,
+    a: &[u32],
+    g: &[u32],
+    p: &[u32],
+    v: &[u32],
+    ix: &[u32],
+    q: &[u32],
+    m: &[u64],
+) -> io::Result<()> {
+    print_field(rt, count_nonzero(a) as u64)?;
+    print_field(rt, count_nonzero(g) as u64)?;
+    print_field(rt, count_nonzero(p) as u64)?;
+    print_field(rt, count_nonzero(v) as u64)?;
+    print_field(rt, count_nonzero(ix) as u64)?;
+    print_field(rt, count_nonzero(q) as u64)?;
+    print_field(rt, count_wide_nonzero(m) as u64)
 }
 
 // Reads the three texts, and makes the call on them.
 fn call_on_texts(
+    input: &mut impl Read,
     call: u32,
     room: u32,
     a: &mut [u32],
@@ -170,24 +200,26 @@ fn call_on_texts(
     q: &mut [u32],
     m: &mut [u64],
     buffer: &mut [u32],
-) -> Outcome {
-    let mut schema_text = io::large_buffer();
-    let mut graph_text = io::large_buffer();
-    let mut query_text = io::large_buffer();
-    let schema_length = read_text(&mut schema_text);
-    let graph_length = read_text(&mut graph_text);
-    let query_length = read_text(&mut query_text);
+) -> io::Result<Outcome> {
+    let mut schema_text = [0u8; TEXT_BUFFER];
+    let mut graph_text = [0u8; TEXT_BUFFER];
+    let mut query_text = [0u8; TEXT_BUFFER];
+    let schema_length = read_text(input, &mut schema_text)?;
+    let graph_length = read_text(input, &mut graph_text)?;
+    let query_length = read_text(input, &mut query_text)?;
     let schema = &schema_text[..schema_length];
     let graph = &graph_text[..graph_length];
     let query = &query_text[..query_length];
     if call == 0 {
-        return sodgravel::size(schema, graph, query, a, g, p, v, ix, q, m);
+        return Ok(sodgravel::size(schema, graph, query, a, g, p, v, ix, q, m));
     }
-    sodgravel::answer(schema, graph, query, a, g, p, v, ix, q, m, room, buffer)
+    Ok(sodgravel::answer(schema, graph, query, a, g, p, v, ix, q, m, room, buffer))
 }
 
 // Runs a case in areas and a buffer that are lent, and writes its line but for the case's number.
 fn run_in(
+    rt: &impl Print,
+    input: &mut impl Read,
     call: u32,
     room: u32,
     a: &mut [u32],
@@ -198,48 +230,51 @@ fn run_in(
     q: &mut [u32],
     m: &mut [u64],
     buffer: &mut [u32],
-) {
-    print_outcome(call_on_texts(call, room, a, g, p, v, ix, q, m, buffer));
-    print_left(a, g, p, v, ix, q, m);
-    print_field(digest(buffer));
-    io::write_all(STDOUT_FILENO, b"\n");
+) -> io::Result<()> {
+    let outcome = call_on_texts(input, call, room, a, g, p, v, ix, q, m, buffer)?;
+    print_outcome(rt, outcome)?;
+    print_left(rt, a, g, p, v, ix, q, m)?;
+    print_field(rt, digest(buffer))?;
+    println!(rt)
 }
 
 // Reads two sequences, judges them, and writes the line but for the case's number. Of a sequence that is longer than any response one
 // token more than the most is kept.
-fn run_judging() {
+fn run_judging(rt: &impl Print, input: &mut impl Read) -> io::Result<()> {
     let mut full = [0u32; 16385];
     let mut shortened = [0u32; 16385];
-    let full_length = read_tokens(&mut full);
-    let shortened_length = read_tokens(&mut shortened);
+    let full_length = read_tokens(input, &mut full)?;
+    let shortened_length = read_tokens(input, &mut shortened)?;
     let reply = shorten::judge(&full[..full_length], &shortened[..shortened_length]);
-    print_field(reply.yes as u64);
-    print_outcome(reply.outcome);
-    io::write_all(STDOUT_FILENO, b"\n");
+    print_field(rt, u64::from(reply.yes))?;
+    print_outcome(rt, reply.outcome)?;
+    println!(rt)
 }
 
 // Reads the numbers of a call that sizes or answers, and runs it. An area is at most one number longer than needed, and the buffer
 // than the largest room.
-fn run_call(call: u32) {
-    let room = read_number();
-    let filling = read_number();
+fn run_call(rt: &impl Print, input: &mut impl Read, call: u32) -> io::Result<()> {
+    let room = read_number(input)?;
+    let filling = read_number(input)?;
     let mut a = [filling; 14729];
     let mut g = [filling; 15881];
     let mut p = [filling; 14345];
     let mut v = [filling; 8201];
     let mut ix = [filling; 3073];
     let mut q = [filling; 3593];
-    let mut m = [filling as u64; 8193];
+    let mut m = [u64::from(filling); 8193];
     let mut buffer = [filling; 16385];
-    let a_length = read_length(&a);
-    let g_length = read_length(&g);
-    let p_length = read_length(&p);
-    let v_length = read_length(&v);
-    let ix_length = read_length(&ix);
-    let q_length = read_length(&q);
-    let m_length = read_wide_length(&m);
-    let buffer_length = read_length(&buffer);
+    let a_length = read_length(input, &a)?;
+    let g_length = read_length(input, &g)?;
+    let p_length = read_length(input, &p)?;
+    let v_length = read_length(input, &v)?;
+    let ix_length = read_length(input, &ix)?;
+    let q_length = read_length(input, &q)?;
+    let m_length = read_wide_length(input, &m)?;
+    let buffer_length = read_length(input, &buffer)?;
     run_in(
+        rt,
+        input,
         call,
         room,
         &mut a[..a_length],
@@ -250,23 +285,26 @@ fn run_call(call: u32) {
         &mut q[..q_length],
         &mut m[..m_length],
         &mut buffer[..buffer_length],
-    );
+    )
 }
 
 // Runs a case.
-fn run_case() {
-    let call = read_number();
+fn run_case(rt: &impl Print, input: &mut impl Read) -> io::Result<()> {
+    let call = read_number(input)?;
     if call == 2 {
-        run_judging();
-        return;
+        run_judging(rt, input)
+    } else {
+        run_call(rt, input, call)
     }
-    run_call(call);
 }
 
-fn main() {
-    let count = read_number();
+fn main(rt: HostRuntime) -> io::Result<()> {
+    let mut input = BufReader::new(rt.alloc(), rt.reader())?;
+    let count = read_number(&mut input)?;
     for i in 0..count {
-        io::print_decimal(STDOUT_FILENO, i as u64 + 1);
-        run_case();
+        let case = i + 1;
+        print!(rt; "{case}")?;
+        run_case(&rt, &mut input)?;
     }
+    Ok(())
 }

@@ -1,5 +1,4 @@
 pub mod Clearing
 pub mod Rules
 pub mod Demands
-pub mod Promised
 pub mod Own

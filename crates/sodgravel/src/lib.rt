@@ -8,8 +8,6 @@ ghost use Rattle.sodgravel.specs.Cleared.{cleared};
 
 use rules::Outcome;
 
-mod exports;
-
 // Zeroes every work area.
 fn clear_all(
     a: &mut [u32],

@@ -1,5 +1,7 @@
 // The public calls under C names, for programs that link the archive (`include/sodgravel.h`). A slice arrives as a pointer and a
 // length. Each call is the one of its name, with its contract.
+#![tactic(auto)]
+
 ghost use Rattle.std.specs.Prelude.{◌≡◌};
 ghost use Rattle.judge.specs.Texts.{texts, lent};
 ghost use Rattle.response.specs.Calls.{sized_in, answered_in, buffer_in};
@@ -31,7 +33,7 @@ pub extern "C" fn sodgravel_size(
     ensures q_after { q.new ≡ cleared q.old }
     ensures m_after { m.new ≡ cleared m.old }
 {
-    crate::size(schema, graph, query, a, g, p, v, ix, q, m)
+    sodgravel::size(schema, graph, query, a, g, p, v, ix, q, m)
 }
 
 // `answer`, under its C name.
@@ -60,7 +62,7 @@ pub extern "C" fn sodgravel_answer(
     ensures q_after { q.new ≡ cleared q.old }
     ensures m_after { m.new ≡ cleared m.old }
 {
-    crate::answer(schema, graph, query, a, g, p, v, ix, q, m, room, out)
+    sodgravel::answer(schema, graph, query, a, g, p, v, ix, q, m, room, out)
 }
 
 // `shorten::judge`, under its C name.

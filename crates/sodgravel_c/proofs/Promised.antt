@@ -4,9 +4,9 @@ use borrow.Fn.World.{ArgsD, ResD}
 use borrow.Fn.Kinds.{ended_of}
 use denote.Triple.Clauses.{AtExit}
 use Rattle.shorten.specs.Judge.{Judged}
-use Rattle.sodgravel.specs.contracts.exports.sodgravel_judge as judge-of
-use Rattle.sodgravel.proofs.exports.sodgravel_judge.Kinds as judge-kinds
-use Rattle.sodgravel.proofs.exports.sodgravel_judge.Reads as judge
+use Rattle.sodgravel_c.specs.contracts.sodgravel_judge as judge-of
+use Rattle.sodgravel_c.proofs.sodgravel_judge.Kinds as judge-kinds
+use Rattle.sodgravel_c.proofs.sodgravel_judge.Reads as judge
 
 module _
     (κs : Lfts 2)

@@ -1,7 +1,7 @@
 -- An accepted text is read whole: of each of its lines the reader hands on the letter and all the numbers. Assumes nothing.
 use Prim.Native.Nat.{ℕ}
 use mathlib.Core.Path.{◌≡◌, ap, ◌∙◌}
-use mathlib.Core.Bool.{Bool, true, false, true≢false}
+use mathlib.Core.Bool.{Bool, true, true≢false}
 use mathlib.Core.List.{List}
 use mathlib.Core.Option.{none}
 use Rattle.rules.specs.Text.{Line, Row, lines, fields, row}

@@ -1,5 +1,5 @@
 -- An area in which a schema's tables stand says what the schema's rows say. Assumes nothing.
-use Prim.Native.Nat.{ℕ, ◌+◌, ◌≤◌, ◌<◌}
+use Prim.Native.Nat.{ℕ, ◌≤◌, ◌<◌}
 use native.Mathlib.Omega.{arith}
 use mathlib.Core.Path.{◌≡◌, refl, sym, ap, ◌∙◌, fun_ext}
 use mathlib.Core.Bool.{Bool, true, false, ◌&&◌}
@@ -8,7 +8,7 @@ use lib.Dec.{eqb, ltb}
 use lib.ListN.{length, get_or, get_or-eq_default}
 use borrow.Author.Tests.{ltb-true, ltb-false}
 use Rattle.rules.specs.Lists.{those, any}
-use Rattle.rules.specs.Text.{Row, no_row, at, A, F, H, M, field_no, type_no}
+use Rattle.rules.specs.Text.{Row, no_row, at, A, F, H, field_no, type_no}
 use Rattle.rules.specs.Schema.{schema_of, is, nth, states, begins}
 use Rattle.tables.specs.Fill.{SchemaFits}
 use Rattle.tables.specs.Layout.{narrow, belongs, counted, schema_head}

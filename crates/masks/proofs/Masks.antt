@@ -5,11 +5,10 @@ use native.Mathlib.Decide.{dec_lt}
 use mathlib.Core.Path.{◌≡◌, refl, sym, ap, ap₂, ◌∙◌}
 use mathlib.Core.Bool.{Bool, false}
 use mathlib.Core.List.{List}
-use lib.Dec.{ltb}
 use lib.ListN.{length, get_or}
 use lib.Seq.{ext_get_or}
 use borrow.Author.Tests.{lt-ltb}
-use Rattle.bits.specs.Bits.{bit, bits_of}
+use Rattle.bits.specs.Bits.{bits_of}
 use Rattle.bits.proofs.Laws.{bits_same, bits_none, halves}
 use Rattle.index.proofs.Links.{tabled-length, tabled-at}
 use Rattle.masks.specs.Masks.{masks_from, schema_needed, cell_size, filled, half_of, mask_cells, masked, mask_at}

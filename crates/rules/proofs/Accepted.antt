@@ -6,7 +6,7 @@ use mathlib.Core.Logic.{◌↔◌}
 use mathlib.Core.List.{List, [], ◌∷◌, map}
 use lib.ListN.{length, length-map}
 use Rattle.rules.specs.Text.{Row}
-use Rattle.rules.specs.Tree.{Entry, entries_from, entries, preorder}
+use Rattle.rules.specs.Tree.{entries_from, entries, preorder}
 use Rattle.rules.specs.Eval.{Meets}
 use Rattle.rules.specs.Sizing.{Visit, passed, start, own, total, cap_at}
 use Rattle.rules.specs.Answer.{Texts, query_rows, world_of, root_of, tree_of, visits_in, response}
@@ -14,7 +14,7 @@ use Rattle.rules.proofs.Size.{size, length-start}
 use Rattle.rules.proofs.Visited.{Listed, visited}
 use Rattle.rules.proofs.Preorder.{preorder-all}
 use Rattle.rules.proofs.Order.{Consecutive, entries_consecutive, Ascends, visits_ascend, visits-length, NoPairTwice, no_pair_twice}
-use Rattle.rules.proofs.Cap.{cap_passed, cap_visit, cap_visits, visits-cap, tally, tally_sum}
+use Rattle.rules.proofs.Cap.{cap_passed, cap_visit, visits-cap, tally, tally_sum}
 use Rattle.rules.proofs.Walk.{walk, visits-walk}
 use Rattle.rules.proofs.Facts.{Facts}
 

@@ -1,6 +1,6 @@
 -- Tests that are joined by &&, || and not; options. Assumes nothing.
 use mathlib.Core.Path.{◌≡◌, refl, sym, subst}
-use mathlib.Core.Bool.{Bool, true, false, ◌&&◌, ◌||◌, not, true≢false, false≢true, beq}
+use mathlib.Core.Bool.{Bool, true, false, ◌&&◌, ◌||◌, true≢false, false≢true}
 use mathlib.Core.Option.{Option, none, some}
 
 pub or_left : (a b : Bool) → (a || b) ≡ false → a ≡ false

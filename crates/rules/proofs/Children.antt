@@ -1,8 +1,7 @@
 -- Theorem 8: "A child of an object field has at v the sum of its parent's multiplicities at u over all matching edges from u to v." Assumes nothing.
-use Prim.Native.Nat.{ℕ, zero, suc, ◌+◌, ◌*◌, ◌≤◌, ◌<◌}
+use Prim.Native.Nat.{ℕ, ◌+◌, ◌≤◌, ◌<◌}
 use native.Mathlib.Omega.{arith}
 use mathlib.Core.Path.{◌≡◌, refl, sym, ap, ◌∙◌, fun_ext}
-use mathlib.Core.Logic.{◌≢◌}
 use mathlib.Core.Bool.{Bool, true, false, ◌&&◌, cond, and-true, and-false}
 use mathlib.Core.List.{List, [], ◌∷◌, map}
 use lib.Dec.{eqb}
@@ -12,7 +11,7 @@ use Rattle.rules.specs.Text.{Row, E}
 use Rattle.rules.specs.Schema.{is, is_scalar, is_list, field_type}
 use Rattle.rules.specs.Graph.{Label, same_label, source, target, label_of, type_of, edge_of}
 use Rattle.rules.specs.Tree.{field}
-use Rattle.rules.specs.World.{Shape, scalar, list, single, shape_if}
+use Rattle.rules.specs.World.{shape_if}
 use Rattle.rules.specs.Eval.{next, onward, first, stay}
 use Rattle.rules.specs.Sizing.{weighed, passed}
 use Rattle.rules.specs.Answer.{Texts, schema_in, graph_in, graph_rows, world_of}

@@ -7,7 +7,7 @@ use mathlib.Core.Option.{Option, none, some}
 use lib.ListN.{drop}
 use Rattle.rules.specs.Lists.{those, keep_if}
 pub use Rattle.rules.specs.Lists.{Each}
-use Rattle.rules.specs.Search.{Test, ◌#◌, test_each, Tests, worse, fault_if, fault_of, fault, Check, first_from, whole, or_else}
+use Rattle.rules.specs.Search.{Test, test_each, Tests, worse, fault_if, fault_of, fault, Check, first_from, whole, or_else}
 use Rattle.rules.specs.declared.Spot.{Spot}
 use Rattle.rules.proofs.Bools.{some-none}
 

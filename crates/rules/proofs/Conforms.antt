@@ -1,21 +1,21 @@
 -- Check 34 on the lines is Definition 4 on the tree. Assumes nothing.
-use Prim.Native.Nat.{ℕ, zero, suc, ◌+◌, ◌≤◌, ◌<◌}
+use Prim.Native.Nat.{ℕ, suc, ◌≤◌, ◌<◌}
 use native.Mathlib.Decide.{dec_lt}
 use native.Mathlib.Omega.{arith}
 use mathlib.Core.Path.{◌≡◌, refl, sym, ap, ap₂, ◌∙◌, subst}
 use mathlib.Core.Logic.{◌⊎◌, inl, inr, ◌↔◌}
-use mathlib.Core.Bool.{Bool, true, false, ◌&&◌, ◌||◌, not, beq, true≢false, false≢true}
+use mathlib.Core.Bool.{Bool, true, false, ◌&&◌, not, beq, true≢false}
 use mathlib.Core.List.{List, [], ◌∷◌}
 use mathlib.Core.Option.{none}
-use lib.Dec.{eqb, leb, ltb}
+use lib.Dec.{eqb}
 use borrow.Author.Tests.{eq-eqb, ne_eqb, eqb-true, lt-ltb, le-ltb, le-leb, lt-leb, not-false, not-true}
 use Rattle.rules.specs.Lists.{all}
 use Rattle.rules.specs.Text.{Row, rows, Pair, pairs_of, F, T}
 use Rattle.rules.specs.Search.{first_line}
 use Rattle.rules.specs.Forms.{form_tests, query_forms, text_form}
 use Rattle.rules.specs.Schema.{Schema, is, field_type, has_field, takes_arg, is_scalar, owns_fields, query_type}
-use Rattle.rules.specs.Query.{depth, shown_as, asked, condition, has_child, hands_down, context, check34}
-use Rattle.rules.specs.Tree.{Asks, field, on, Entry, Forest, none as noEntry, node, asks_of, entries_from, entries, siblings, tree}
+use Rattle.rules.specs.Query.{depth, asked, condition, has_child, hands_down, context, check34}
+use Rattle.rules.specs.Tree.{Entry, Forest, asks_of, entries_from, entries, siblings, tree}
 use Rattle.rules.specs.Valid.{Kinds, kinds, childless, under, valid_entry, valid}
 use Rattle.rules.specs.Answer.{Texts, schema_in, query_rows, tree_of, checks}
 use Rattle.rules.specs.Contract.{Passed}

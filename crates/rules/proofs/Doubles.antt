@@ -1,13 +1,13 @@
 -- Theorem 9: the second half of Proposition 1, the doubling, for every n. Assumes nothing.
 use Prim.Native.Nat.{ℕ, zero, suc, ◌+◌, ◌*◌, ◌^◌}
-use native.Mathlib.Nat.{pow-zero, pow-suc}
+use native.Mathlib.Nat.{pow-suc}
 use native.Mathlib.Omega.{arith}
-use mathlib.Core.Path.{◌≡◌, refl, sym, ap, ◌∙◌}
+use mathlib.Core.Path.{◌≡◌, refl, ap, ◌∙◌}
 use mathlib.Core.List.{List, [], ◌∷◌, ◌++◌}
 use lib.Dec.{eqb}
 use lib.ListN.{length, length-append}
-use Rattle.rules.specs.Lists.{times, one_if, sum_of}
-use Rattle.rules.specs.Tree.{Forest, preorder}
+use Rattle.rules.specs.Lists.{times, one_if}
+use Rattle.rules.specs.Tree.{preorder}
 use Rattle.rules.specs.Eval.{eval, label, object, listed}
 use Rattle.rules.specs.Doubling.{people, query, knows, alpha, phi, doubled, alice}
 use Rattle.rules.proofs.Sums.{sum_append}

@@ -2,7 +2,7 @@
 use Prim.Native.Nat.{ℕ, zero, suc, ◌+◌, ◌≤◌, ◌<◌}
 use native.Mathlib.Omega.{arith}
 use mathlib.Core.Path.{◌≡◌, refl}
-use mathlib.Core.Bool.{Bool, true, false, ◌&&◌, not}
+use mathlib.Core.Bool.{Bool, true, false, not}
 use mathlib.Core.List.{List, [], ◌∷◌, map}
 use mathlib.Core.Option.{none}
 use lib.Dec.{eqb}
@@ -15,7 +15,7 @@ use Rattle.rules.specs.Schema.{Schema, is, is_list, query_type}
 use Rattle.rules.specs.Graph.{Label, Graph, graph_of, nodes_of, type_of, target, declared_node, starts, edge_of, check22, check27}
 use Rattle.rules.specs.Query.{depth, deepest, steps, check32}
 use Rattle.rules.specs.Tree.{entries_from, entries}
-use Rattle.rules.specs.World.{World, world, query_node}
+use Rattle.rules.specs.World.{world, query_node}
 use Rattle.rules.specs.Answer.{Texts, schema_in, graph_in, graph_rows, query_rows, world_of, root_of, checks}
 use Rattle.rules.specs.Contract.{Passed}
 use Rattle.rules.proofs.Bools.{and-true_left}

@@ -1,15 +1,14 @@
 -- 01's words on type conditions: a child takes its parent's multiplicity at nodes of compatible type, and all others are 0. Assumes nothing.
-use Prim.Native.Nat.{ℕ, zero, suc, ◌+◌, ◌*◌, ◌≤◌, ◌<◌}
+use Prim.Native.Nat.{ℕ, zero, suc, ◌+◌, ◌*◌, ◌<◌}
 use native.Mathlib.Nat.{mul-zero, mul-one}
 use native.Mathlib.Omega.{arith}
 use mathlib.Core.Path.{◌≡◌, refl, sym, ap, ◌∙◌, subst}
 use mathlib.Core.Bool.{Bool, true, false, cond}
-use mathlib.Core.List.{List, [], ◌∷◌, map}
-use lib.Dec.{eqb}
-use lib.ListN.{length, get_or}
+use mathlib.Core.List.{List, [], ◌∷◌}
+use lib.ListN.{get_or}
 use borrow.Author.Tests.{eq-eqb, ne_eqb}
-use Rattle.rules.specs.Lists.{times, one_if}
-use Rattle.rules.specs.Tree.{Asks, on}
+use Rattle.rules.specs.Lists.{times}
+use Rattle.rules.specs.Tree.{on}
 use Rattle.rules.specs.World.{World}
 use Rattle.rules.specs.Eval.{next, stay}
 use Rattle.rules.specs.Sizing.{weighed, passed}

@@ -1,10 +1,10 @@
 -- Theorems 2, 3 and 7 of the outcomes: what sizing and answering show, case by case, for every input. Assumes nothing.
-use Prim.Native.Nat.{ℕ, zero, suc, ◌≤◌, ◌<◌}
+use Prim.Native.Nat.{ℕ, suc, ◌≤◌, ◌<◌}
 use native.Mathlib.Decide.{dec_lt}
 use native.Mathlib.Omega.{arith}
 use mathlib.Core.Path.{◌≡◌, refl, sym, ap, ◌∙◌, subst}
 use mathlib.Core.Logic.{◌↔◌, ◌≢◌}
-use mathlib.Core.Bool.{Bool, true, false}
+use mathlib.Core.Bool.{Bool, false}
 use mathlib.Core.List.{List, [], ◌∷◌}
 use mathlib.Core.Option.{Option, none, some}
 use lib.Dec.{ltb}
@@ -12,7 +12,7 @@ use lib.ListN.{length}
 use borrow.Author.Tests.{ltb-false, lt-ltb, le-ltb}
 use Rattle.rules.specs.Search.{whole, spot}
 use Rattle.rules.specs.Sizing.{most, cap}
-use Rattle.rules.specs.Answer.{Texts, schema_in, graph_rows, world_of, root_of, tree_of, response, visits_in, Numbered, checks, answer_checks, largest_room, verdict, outcome, refused, told, sized, space, fitted, answered}
+use Rattle.rules.specs.Answer.{Texts, schema_in, graph_rows, root_of, tree_of, response, visits_in, Numbered, checks, answer_checks, largest_room, verdict, outcome, refused, told, sized, space, fitted, answered}
 use Rattle.rules.specs.Contract.{place_of, Passed, Least}
 use Rattle.rules.specs.declared.Spot.{Spot}
 use Rattle.rules.specs.declared.Outcome.{Outcome}
@@ -20,7 +20,7 @@ use Rattle.rules.proofs.Bools.{some-none}
 use Rattle.rules.proofs.Clean.{whole-none}
 use Rattle.rules.proofs.Places.{Rises, rising, passes_at, passed-tail, offended_above, Decided, passed as allPass, refused as oneRefuses, decided, verdict-passes, least_refuses, passed-accepts}
 use Rattle.rules.proofs.Single.{no_fork_met}
-use Rattle.rules.proofs.Facts.{Facts, facts}
+use Rattle.rules.proofs.Facts.{facts}
 use Rattle.rules.proofs.Accepted.{response-size}
 
 -- ---- sizing

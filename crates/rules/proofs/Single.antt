@@ -1,11 +1,11 @@
 -- Theorem 7: once 25 and 26 have passed, a field that is no list has at most one target under a label, so 40 is never given. Assumes nothing.
 use Prim.Native.Nat.{ℕ, ◌≤◌}
 use native.Mathlib.Omega.{arith}
-use mathlib.Core.Path.{◌≡◌, refl, sym, ap, ◌∙◌, subst}
+use mathlib.Core.Path.{◌≡◌, refl, sym, ap, ◌∙◌}
 use mathlib.Core.Logic.{◌⊎◌, inl, inr}
-use mathlib.Core.Bool.{Bool, true, false, ◌&&◌, ◌||◌, not}
+use mathlib.Core.Bool.{Bool, true, false, ◌&&◌, not}
 use mathlib.Core.List.Memᴰ
-use mathlib.Core.List.{List, [], ◌∷◌, map, Memᴰ}
+use mathlib.Core.List.{List, [], ◌∷◌, Memᴰ}
 use mathlib.Core.Option.{none}
 use lib.Dec.{eqb}
 use lib.ListN.{length, length-map}
@@ -15,8 +15,8 @@ use Rattle.rules.specs.Text.{Row, E}
 use Rattle.rules.specs.Search.{first_line}
 use Rattle.rules.specs.Schema.{Schema, is, is_list, is_scalar, field_type}
 use Rattle.rules.specs.Graph.{Label, Graph, graph_of, same_label, source, target, field_of, label_of, type_of, starts, edge_of, diverts, check25, check26}
-use Rattle.rules.specs.Tree.{Asks, field, on, Entry, Forest, none as noEntry, node}
-use Rattle.rules.specs.World.{World, world, shape_if, scalar, list, single, Shape}
+use Rattle.rules.specs.Tree.{Asks, field, on, Forest, none as noEntry, node}
+use Rattle.rules.specs.World.{world, shape_if}
 use Rattle.rules.specs.Eval.{next, two, forked, meets_fork}
 use Rattle.rules.proofs.Bools.{and-true, and-true_left, and-true_right, and_right, or_left, or_right, or-false, clash}
 use Rattle.rules.proofs.Clean.{Calm, Clean, clean}

@@ -2,7 +2,7 @@
 use Prim.Native.Nat.{ℕ, ◌≤◌}
 use mathlib.Core.Path.{◌≡◌, refl, ap}
 use mathlib.Core.Bool.{Bool, true, false, ◌&&◌, not, true≢false}
-use mathlib.Core.List.{List, [], ◌∷◌, ◌++◌, map, tail}
+use mathlib.Core.List.{List, [], ◌∷◌, map, tail}
 use mathlib.Core.Option.{none}
 use lib.Dec.{leb, ltb}
 use lib.ListN.{length, length-map}

@@ -1,13 +1,13 @@
 -- Theorem 8: every token of an accepted response is a value, a label or one of the five marks, and below 2^32. Assumes nothing.
-use Prim.Native.Nat.{ℕ, zero, suc, ◌+◌, ◌*◌, ◌^◌, ◌≤◌, ◌<◌, compare, Ordering}
+use Prim.Native.Nat.{ℕ, suc, ◌+◌, ◌*◌, ◌^◌, ◌≤◌, ◌<◌, compare, Ordering}
 use native.Mathlib.Omega.{arith}
 use mathlib.Core.Path.{◌≡◌, refl}
 use mathlib.Core.Bool.{Bool, true, false}
 use mathlib.Core.List.Memᴰ
-use mathlib.Core.List.{List, [], ◌∷◌, ◌++◌, Memᴰ}
+use mathlib.Core.List.{List, [], ◌∷◌, Memᴰ}
 use mathlib.Core.Logic.{◌⊎◌, inl, inr}
 use lib.Dec.{eqb}
-use lib.ListN.{get_or, drop}
+use lib.ListN.{get_or}
 use borrow.Author.Tests.{ltb-false}
 use Rattle.rules.specs.Lists.{those, each}
 use Rattle.rules.specs.Text.{largest, Row, at, values_of, F}
@@ -16,7 +16,7 @@ use Rattle.rules.specs.Graph.{Label, Found, nothing, one, many, found_in, proper
 use Rattle.rules.specs.Query.{shown_as, check33}
 use Rattle.rules.specs.Tree.{Asks, field, on, Entry, Forest, none as noEntry, node, asks_of, entries_from, siblings}
 use Rattle.rules.specs.World.{World, Shape, scalar, list, single}
-use Rattle.rules.specs.Eval.{label, open_object, close_object, open_list, close_list, null, object, listed, value, object_at, answer, only_if, shown, eval}
+use Rattle.rules.specs.Eval.{label, open_object, close_object, open_list, close_list, null, object, listed, value, answer, only_if, shown, eval}
 use Rattle.rules.specs.Answer.{Texts, schema_in, graph_rows, query_rows, world_of, root_of, tree_of, response, checks}
 use Rattle.rules.specs.Contract.{Passed}
 use Rattle.rules.proofs.Clean.{Calm, Each, each_map, each_append, each-drop, each-those, clean, clean-each}

@@ -5,11 +5,11 @@ use native.Mathlib.Omega.{arith}
 use mathlib.Core.Path.{◌≡◌, refl, sym, ap, ap₂, ◌∙◌, subst}
 use mathlib.Core.Logic.{inl, inr}
 use mathlib.Core.List.{List, [], ◌∷◌, ◌++◌}
-use lib.ListN.{length, get_or, take, drop, replicate, take-append-drop, length-append, length-drop, length-replicate, get_or-replicate}
+use lib.ListN.{length, drop, take-append-drop, length-append, length-drop, length-replicate, get_or-replicate}
 use lib.Seq.{ext_get_or, take-append_seam, drop-append_seam}
 use Rattle.rules.specs.Sizing.{cap}
-use Rattle.rules.specs.Answer.{Texts, response, visits_in, checks, answer_checks, sized, answered, written, buffer_after, space, Area, too_short, zeroed, areas_after, outcome, refused}
-use Rattle.rules.specs.Contract.{Least, Passed, Shows, Exact, Exceeds, Fits, Written, Zeros, AllZeros, Sizes, Answers}
+use Rattle.rules.specs.Answer.{Texts, response, answer_checks, sized, answered, written, buffer_after, space, Area, too_short, zeroed, areas_after, outcome}
+use Rattle.rules.specs.Contract.{Least, Shows, Exact, Exceeds, Fits, Written, Zeros, AllZeros, Sizes, Answers}
 use Rattle.rules.specs.declared.Spot.{Spot}
 use Rattle.rules.specs.declared.Outcome.{Outcome}
 use Rattle.rules.proofs.Places.{offended_above}

@@ -1,5 +1,5 @@
 -- What a call owes, in 01's words and without saying how it is computed: no two outcomes meet them. Assumes nothing.
-use Rattle.std.specs.Prelude.{ℕ, suc, ◌≤◌, ◌<◌, ◌≡◌, ◌⊎◌, Bool, true, false, List, [], ◌∷◌, reverse, eqb, length, get_or, take, drop}
+use Rattle.std.specs.Prelude.{ℕ, suc, ◌≤◌, ◌<◌, ◌≡◌, ◌⊎◌, true, false, List, [], ◌∷◌, reverse, eqb, length, get_or, take, drop}
 use Rattle.std.proofs.Math.Option.{Option, none, some}
 use Rattle.rules.specs.Search.{Check, fault}
 use Rattle.rules.specs.Answer.{Texts, response, visits_in, Numbered, checks, answer_checks, Area, too_short}

@@ -2,7 +2,7 @@
 use Rattle.std.specs.Prelude.{ℕ, ◌+◌, ◌≡◌, ◌⊎◌, Bool, true, false, ◌||◌, ltb, length}
 use mathlib.Core.List.{List, [], ◌∷◌, ◌++◌, Memᴰ}
 use Rattle.rules.specs.Lists.{each, any}
-use Rattle.rules.specs.Tree.{Asks, field, on, Entry, Forest, none, node}
+use Rattle.rules.specs.Tree.{Asks, field, on, Forest, none, node}
 use Rattle.rules.specs.Graph.{Found, nothing, one, many}
 use Rattle.rules.specs.World.{World, Shape, scalar, list, single}
 

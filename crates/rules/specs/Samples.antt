@@ -1,9 +1,9 @@
 -- The sample of 01 and its changes P1 to P12. Assumes nothing.
 use Rattle.std.specs.Prelude.{ℕ, Bool, true, false, ◌&&◌, List, [], ◌∷◌, ◌++◌, map, eqb, length, drop, replicate}
-use Prim.Native.Char.{Char, code}
+use Prim.Native.Char.{code}
 use Prim.Native.String.{String, [] as []ˢ, ◌∷◌ as ◌∷ˢ◌, ◌++◌ as ◌++ˢ◌}
 use Rattle.rules.specs.Lists.{same_numbers}
-use Rattle.rules.specs.Text.{Row, at, rows}
+use Rattle.rules.specs.Text.{at, rows}
 use Rattle.rules.specs.Eval.{label, open_object, close_object, open_list, close_list, null}
 use Rattle.rules.specs.Answer.{Texts, outcome, answered, buffer_after}
 use Rattle.rules.specs.declared.Outcome.{Outcome}

@@ -1,5 +1,5 @@
 -- Multiplicities, visits and the size. Assumes nothing.
-use Rattle.std.specs.Prelude.{ℕ, zero, suc, ◌+◌, ◌*◌, min, Bool, true, false, List, [], ◌∷◌, ◌++◌, map, eqb, length}
+use Rattle.std.specs.Prelude.{ℕ, zero, suc, ◌+◌, ◌*◌, min, List, [], ◌∷◌, ◌++◌, map, eqb, length}
 use Rattle.rules.specs.Lists.{sum_of, times, count_up, one_if}
 use Rattle.rules.specs.Tree.{Asks, field, on, Entry, Forest, none, node}
 use Rattle.rules.specs.Graph.{Found, nothing, one, many}

@@ -1,9 +1,8 @@
 -- The field at fault, by examples worked out by hand. The base shows only the line. Assumes nothing.
 use Rattle.std.specs.Prelude.{ℕ, Bool, false, ◌&&◌, List, [], ◌∷◌, eqb}
 use Prim.Native.String.{String, ◌++◌ as ◌++ˢ◌}
-use Rattle.rules.specs.Samples.{text, schema, graph, query}
+use Rattle.rules.specs.Samples.{text, schema, graph}
 use Rattle.rules.specs.Answer.{Texts, checks, verdict}
-use Rattle.rules.specs.declared.Spot.{Spot}
 
 -- Three texts, and the number, line and field that refuse them.
 pub record Fault : Type 0 where

@@ -1,6 +1,6 @@
 -- The query as a tree, from its lines in preorder (Definition 3). Assumes nothing.
 use Prim.Native.Nat.{ℕ, suc, compare, Ordering}
-use Rattle.std.specs.Prelude.{Bool, true, false, List, [], ◌∷◌, ◌++◌}
+use Rattle.std.specs.Prelude.{true, false, List, [], ◌∷◌, ◌++◌}
 use Rattle.rules.specs.Text.{Row, F, pairs_of}
 use Rattle.rules.specs.Schema.{is}
 use Rattle.rules.specs.Graph.{Label}

@@ -3,8 +3,7 @@ use Rattle.std.specs.Prelude.{Bool, true, false, ◌&&◌, not}
 use Rattle.std.specs.Bool.{beq}
 use Rattle.rules.specs.Lists.{all}
 use Rattle.rules.specs.Schema.{Schema, field_type, has_field, takes_arg, is_scalar, owns_fields}
-use Rattle.rules.specs.Graph.{Label}
-use Rattle.rules.specs.Tree.{Asks, field, on, Entry, Forest, none, node}
+use Rattle.rules.specs.Tree.{Asks, field, on, Forest, none, node}
 use Rattle.rules.specs.declared.FieldNo.{FieldNo}
 use Rattle.rules.specs.declared.ArgNo.{ArgNo}
 use Rattle.rules.specs.declared.TypeNo.{TypeNo}

@@ -1,11 +1,10 @@
 -- What each answer says, and no two answers are right; one law for each way through `judge`. Assumes nothing.
 use mathlib.Core.Path.{◌≡◌, refl, sym, subst}
 use mathlib.Core.Logic.{◌↔◌}
-use mathlib.Core.Bool.{Bool, true, false, not}
+use mathlib.Core.Bool.{Bool, true, false}
 use mathlib.Core.List.{List}
 use Prim.Native.Nat.{ℕ}
 use native.Mathlib.Omega.{arith}
-use borrow.Author.Tests.{not-true, not-false}
 use Rattle.rules.specs.declared.Reply.{Reply}
 use Rattle.rules.proofs.Bools.{clash}
 use Rattle.tokens.specs.Response.{IsResponse}

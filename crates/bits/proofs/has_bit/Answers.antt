@@ -1,7 +1,6 @@
 -- `bits::has_bit` meets its contract: the lowest bit of what is shifted down is its rest by 2, and from 64 on nothing stands. Assumes nothing.
 use Prim.Native.Nat.{ℕ, ◌/◌, ◌^◌}
 use mathlib.Core.Path.{sym, ap}
-use borrow.Author.Rules.{rules}
 use lib.Dec.{eqb}
 use lib.Bits.{and_mask}
 use Rattle.bits.specs.Bits.{bit}

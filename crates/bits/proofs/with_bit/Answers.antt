@@ -3,7 +3,6 @@ use Prim.Native.Nat.{◌^◌}
 use mathlib.Core.Path.{ap, ◌∙◌}
 use native.Mathlib.Nat.{one-mul}
 use native.Mathlib.Omega.{arith}
-use borrow.Author.Rules.{rules}
 use lib.Bits.{bit_or}
 use lib.Pow.{shl_exact}
 use Rattle.bits.proofs.with_bit.Goals as goal

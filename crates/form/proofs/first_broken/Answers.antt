@@ -1,8 +1,5 @@
-use Prim.Native.Nat.{◌+◌, ◌≤◌, ◌-◌}
 use native.Mathlib.Omega.{arith}
-use borrow.Author.Rules.{rules}
-use lib.ListN.{length}
-use Rattle.form.proofs.Breaking.{BrokenLeft, broken-start, broken-stop, broken-done, row_fits, line-turn-laws}
+use Rattle.form.proofs.Breaking.{broken-start, broken-stop, broken-done, row_fits, line-turn-laws}
 use Rattle.form.proofs.first_broken.Goals as goal
 
 pub loop-at-init : goal.loop-at-init

@@ -1,10 +1,8 @@
 -- `form::first_broken` meets its contract. The loop's invariant: the first broken line of the text is the first from the position
 -- on, whose line has the number `line`. The measure is what is left of the text. Assumes nothing.
 use Prim.Native.Nat.{◌+◌, ◌≤◌, ◌-◌}
-use native.Mathlib.Omega.{arith}
-use borrow.Author.Rules.{rules}
 use lib.ListN.{length}
-use Rattle.form.proofs.Breaking.{BrokenLeft, broken-start, broken-stop, broken-done, row_fits, line-turn-laws}
+use Rattle.form.proofs.Breaking.{BrokenLeft}
 use Rattle.form.proofs.first_broken.Given as goal
 
 abbrev pub invariant-loop-at : goal.invariant-loop-at

@@ -1,8 +1,5 @@
-use Prim.Native.Nat.{◌≤◌, ◌-◌}
-use mathlib.Core.Path.{◌≡◌}
 use borrow.Author.Rules.{rules}
-use lib.ListN.{length, get_or}
-use Rattle.form.proofs.Rises.{PairsLeft, pairs-laws}
+use Rattle.form.proofs.Rises.{pairs-laws}
 use Rattle.form.proofs.pairs_fault.Goals as goal
 
 pub bounds-nums-3 : goal.bounds-nums-3

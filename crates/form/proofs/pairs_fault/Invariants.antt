@@ -1,9 +1,8 @@
 -- `form::pairs_fault` meets its contract. The loop's invariant: the pairs from i on have the fault that all have. Assumes nothing.
 use Prim.Native.Nat.{◌≤◌, ◌-◌}
 use mathlib.Core.Path.{◌≡◌}
-use borrow.Author.Rules.{rules}
 use lib.ListN.{length, get_or}
-use Rattle.form.proofs.Rises.{PairsLeft, pairs-laws}
+use Rattle.form.proofs.Rises.{PairsLeft}
 use Rattle.form.proofs.pairs_fault.Given as goal
 
 abbrev pub invariant-loop-i : goal.invariant-loop-i

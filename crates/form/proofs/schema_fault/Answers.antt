@@ -1,5 +1,4 @@
 -- `form::schema_fault` meets its contract, letter by letter. Assumes nothing.
-use mathlib.Core.Logic.{⊎_elim}
 use native.Mathlib.Omega.{arith}
 use borrow.Author.Rules.{rules}
 use Rattle.form.proofs.Letters.{schema-laws, schema_far, schema_near, schema_other}

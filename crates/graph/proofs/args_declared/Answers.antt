@@ -1,9 +1,6 @@
-use Prim.Native.Nat.{◌≤◌, ◌-◌}
 use native.Mathlib.Omega.{arith}
-use lib.ListN.{get_or}
-use borrow.Author.Tests.{not-false}
 use borrow.Author.Rules.{rules}
-use Rattle.graph.proofs.Turning.{DeclaredLeft, declared_on, declaring}
+use Rattle.graph.proofs.Turning.{declared_on, declaring}
 use Rattle.graph.proofs.args_declared.Goals as goal
 
 pub bounds-nums-3 : goal.bounds-nums-3

@@ -1,11 +1,8 @@
 -- `graph::args_declared` meets its contract. The loop's invariant: the pairs before pair i are not at fault. The measure is how many are left.
 -- Assumes nothing.
 use Prim.Native.Nat.{◌≤◌, ◌-◌}
-use native.Mathlib.Omega.{arith}
 use lib.ListN.{get_or}
-use borrow.Author.Tests.{not-false}
-use borrow.Author.Rules.{rules}
-use Rattle.graph.proofs.Turning.{DeclaredLeft, declared_on, declaring}
+use Rattle.graph.proofs.Turning.{DeclaredLeft}
 use Rattle.graph.proofs.args_declared.Given as goal
 
 abbrev pub invariant-loop-i : goal.invariant-loop-i

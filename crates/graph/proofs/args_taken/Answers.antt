@@ -1,9 +1,6 @@
-use Prim.Native.Nat.{◌≤◌, ◌-◌}
 use native.Mathlib.Omega.{arith}
-use lib.ListN.{get_or}
-use borrow.Author.Tests.{not-true, not-false}
 use borrow.Author.Rules.{rules}
-use Rattle.graph.proofs.Turning.{TakenLeft, taken-beyond, taken-on, taking}
+use Rattle.graph.proofs.Turning.{taken-beyond, taken-on, taking}
 use Rattle.graph.proofs.args_taken.Goals as goal
 
 pub bounds-nums-3 : goal.bounds-nums-3

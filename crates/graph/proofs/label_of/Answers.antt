@@ -1,8 +1,5 @@
-use Prim.Native.Nat.{◌≤◌, ◌-◌}
-use mathlib.Core.Path.{◌≡◌}
-use lib.ListN.{length}
 use borrow.Author.Rules.{rules}
-use Rattle.graph.proofs.Copying.{Copied, from_row, copying}
+use Rattle.graph.proofs.Copying.{copying}
 use Rattle.graph.proofs.label_of.Goals as goal
 
 pub loop-i-init : goal.loop-i-init

@@ -2,8 +2,7 @@
 use Prim.Native.Nat.{◌≤◌, ◌-◌}
 use mathlib.Core.Path.{◌≡◌}
 use lib.ListN.{length}
-use borrow.Author.Rules.{rules}
-use Rattle.graph.proofs.Copying.{Copied, from_table, copying}
+use Rattle.graph.proofs.Copying.{Copied, from_table}
 use Rattle.graph.proofs.named_at.Given as goal
 
 abbrev pub invariant-loop-i : goal.invariant-loop-i

@@ -1,6 +1,5 @@
-use Prim.Native.Nat.{◌≤◌, ◌-◌}
 use borrow.Author.Rules.{rules}
-use Rattle.graph.proofs.Copying.{Agree, comparing}
+use Rattle.graph.proofs.Copying.{comparing}
 use Rattle.graph.proofs.same_label.Goals as goal
 
 pub returns-then-x-y : goal.returns-then-x-y

@@ -1,7 +1,6 @@
 -- `graph::same_label` meets its contract. The loop's invariant: the first i numbers agree. The measure is how many are left. Assumes nothing.
 use Prim.Native.Nat.{◌≤◌, ◌-◌}
-use borrow.Author.Rules.{rules}
-use Rattle.graph.proofs.Copying.{Agree, comparing}
+use Rattle.graph.proofs.Copying.{Agree}
 use Rattle.graph.proofs.same_label.Given as goal
 
 abbrev pub invariant-loop-i : goal.invariant-loop-i

@@ -1,5 +1,4 @@
 -- `graph::twin_edge` meets its contract. The target decides whether node and label are looked at. Assumes nothing.
-use native.Mathlib.Omega.{arith}
 use borrow.Author.Rules.{rules}
 use Rattle.graph.proofs.Copying.{edges}
 use Rattle.graph.proofs.twin_edge.Goals as goal

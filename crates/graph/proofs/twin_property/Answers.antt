@@ -1,5 +1,4 @@
 -- `graph::twin_property` meets its contract. Assumes nothing.
-use native.Mathlib.Omega.{arith}
 use borrow.Author.Rules.{rules}
 use Rattle.graph.proofs.Copying.{property-asked}
 use Rattle.graph.proofs.twin_property.Goals as goal

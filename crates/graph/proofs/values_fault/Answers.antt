@@ -1,10 +1,6 @@
-use Prim.Native.Nat.{◌+◌, ◌≤◌, ◌-◌}
 use native.Mathlib.Omega.{arith}
-use lib.ListN.{length}
-use borrow.Author.Tests.{not-true, not-false}
 use borrow.Author.Rules.{rules}
-use Rattle.tables.specs.Read.{values_at}
-use Rattle.graph.proofs.Turning.{ValuesLeft, values-broken, values-on, valuing}
+use Rattle.graph.proofs.Turning.{values-broken, values-on, valuing}
 use Rattle.graph.proofs.values_fault.Goals as goal
 
 pub wide_at-requires : goal.wide_at-requires

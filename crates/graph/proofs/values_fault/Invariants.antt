@@ -1,12 +1,9 @@
 -- `graph::values_fault` meets its contract. The loop's invariant: the values before value i are not at fault. The measure is how many are left.
 -- Assumes nothing.
 use Prim.Native.Nat.{◌+◌, ◌≤◌, ◌-◌}
-use native.Mathlib.Omega.{arith}
 use lib.ListN.{length}
-use borrow.Author.Tests.{not-true, not-false}
-use borrow.Author.Rules.{rules}
 use Rattle.tables.specs.Read.{values_at}
-use Rattle.graph.proofs.Turning.{ValuesLeft, values-broken, values-on, valuing}
+use Rattle.graph.proofs.Turning.{ValuesLeft}
 use Rattle.graph.proofs.values_fault.Given as goal
 
 abbrev pub invariant-loop-i : goal.invariant-loop-i

@@ -1,6 +1,5 @@
 -- `index::first_row` meets its contract. Assumes nothing.
 use native.Mathlib.Omega.{arith}
-use borrow.Author.Rules.{rules}
 use Rattle.tables.specs.Read.{cell}
 use Rattle.index.proofs.Links.{first_in_lem, first_out}
 use Rattle.index.proofs.first_row.Goals as goal

@@ -1,9 +1,5 @@
-use Prim.Native.Nat.{◌≤◌}
 use native.Mathlib.Omega.{arith}
-use borrow.Author.Rules.{rules}
-use Rattle.index.specs.Index.{keys}
-use Rattle.index.specs.Buckets.{bucket_at}
-use Rattle.index.proofs.Laying.{Linking, keys-start, keys_on, links-done}
+use Rattle.index.proofs.Laying.{keys-start, keys_on, links-done}
 use Rattle.index.proofs.Buckets.{bucket_small, buckets_keyed, bucket_read}
 use Rattle.index.proofs.lay_buckets.Goals as goal
 

@@ -1,12 +1,9 @@
 -- `index::lay_buckets` meets its contract. The loop's invariant: the links among the rows from row j on are laid, and the rows stand as they
 -- stood. The measure is the rows left. Assumes nothing.
 use Prim.Native.Nat.{◌≤◌}
-use native.Mathlib.Omega.{arith}
-use borrow.Author.Rules.{rules}
 use Rattle.index.specs.Index.{keys}
 use Rattle.index.specs.Buckets.{bucket_at}
-use Rattle.index.proofs.Laying.{Linking, keys-start, keys_on, links-done}
-use Rattle.index.proofs.Buckets.{bucket_small, buckets_keyed, bucket_read}
+use Rattle.index.proofs.Laying.{Linking}
 use Rattle.index.proofs.lay_buckets.Given as goal
 
 abbrev pub invariant-loop-j : goal.invariant-loop-j

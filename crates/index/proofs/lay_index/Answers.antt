@@ -1,6 +1,5 @@
 -- `index::lay_index` meets its contract. Assumes nothing.
 use native.Mathlib.Omega.{arith}
-use borrow.Author.Rules.{rules}
 use Rattle.tables.specs.Read.{cell}
 use Rattle.index.specs.Index.{index_at}
 use Rattle.index.proofs.Laying.{blank_first, blank_second, index_laid}

@@ -1,9 +1,7 @@
-use Prim.Native.Nat.{◌-◌, ◌≤◌, ◌<◌}
+use Prim.Native.Nat.{◌-◌, ◌<◌}
 use native.Mathlib.Omega.{arith}
-use borrow.Author.Rules.{rules}
 use Rattle.tables.specs.Read.{wide_at}
-use Rattle.index.specs.Index.{sources_at}
-use Rattle.index.proofs.Laying.{Linking, keys-start, keys_on, links-done}
+use Rattle.index.proofs.Laying.{keys-start, keys_on, links-done}
 use Rattle.index.proofs.lay_links.Goals as goal
 use Rattle.index.proofs.lay_links.Goals.{After-row_cell-node}
 

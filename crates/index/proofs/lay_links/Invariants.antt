@@ -1,11 +1,8 @@
 -- `index::lay_links` meets its contract. The loop's invariant: the links among the rows from row j on are laid. The measure is the rows left.
 -- Assumes nothing.
-use Prim.Native.Nat.{◌-◌, ◌≤◌, ◌<◌}
-use native.Mathlib.Omega.{arith}
-use borrow.Author.Rules.{rules}
-use Rattle.tables.specs.Read.{wide_at}
+use Prim.Native.Nat.{◌≤◌}
 use Rattle.index.specs.Index.{sources_at}
-use Rattle.index.proofs.Laying.{Linking, keys-start, keys_on, links-done}
+use Rattle.index.proofs.Laying.{Linking}
 use Rattle.index.proofs.lay_links.Given as goal
 
 abbrev pub invariant-loop-j : goal.invariant-loop-j

@@ -2,7 +2,6 @@
 use Prim.Native.Nat.{ℕ, ◌≤◌}
 use native.Mathlib.Omega.{arith}
 use lib.ListN.{length}
-use borrow.Author.Rules.{rules}
 use Rattle.tables.specs.Read.{cell}
 use Rattle.index.proofs.Buckets.{PairTable, has_pairs, takes-pairs, member_pairs, tables-long, tables-few, has_linkable, takes_linkable, members_linkable, schema-laid}
 use Rattle.index.proofs.lay_schema.Goals as goal

@@ -1,5 +1,4 @@
 -- `index::link_row` meets its contract. Assumes nothing.
-use native.Mathlib.Omega.{arith}
 use borrow.Author.Rules.{rules}
 use lib.ListN.{length-set}
 use Rattle.tables.specs.Read.{cell}

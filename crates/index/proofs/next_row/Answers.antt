@@ -1,5 +1,4 @@
 -- `index::next_row` meets its contract. Assumes nothing.
-use borrow.Author.Rules.{rules}
 use Rattle.tables.specs.Read.{cell}
 use Rattle.index.proofs.next_row.Goals as goal
 

@@ -1,7 +1,6 @@
 -- `masks::half_at` meets its contract: what stands in the area is a number of 32 bits. Assumes nothing.
 use mathlib.Core.Path.{refl}
 use native.Mathlib.Omega.{arith}
-use borrow.Author.Rules.{rules}
 use Rattle.tables.specs.Read.{cell}
 use Rattle.masks.proofs.half_at.Goals as goal
 

@@ -1,6 +1,5 @@
 -- `masks::join_member` meets its contract. Assumes nothing.
 use native.Mathlib.Omega.{arith}
-use borrow.Author.Rules.{rules}
 use Rattle.masks.specs.Join.{member_joined}
 use Rattle.masks.proofs.join_member.Goals as goal
 

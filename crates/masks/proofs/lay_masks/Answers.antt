@@ -1,5 +1,4 @@
 -- `masks::lay_masks` meets its contract: the object types join themselves, then the objects of the `M` records their types. Assumes nothing.
-use borrow.Author.Rules.{rules}
 use Rattle.masks.proofs.Joining.{members_joinable, all-joined}
 use Rattle.masks.proofs.lay_masks.Goals as goal
 

@@ -1,5 +1,4 @@
 -- `query::arg_passes` meets its contract. One law for each number. Assumes nothing.
-use borrow.Author.Rules.{rules}
 use Rattle.query.proofs.Arguments.{pass-laws}
 use Rattle.query.proofs.arg_passes.Goals as goal
 

@@ -1,11 +1,6 @@
-use Prim.Native.Nat.{◌≤◌, ◌-◌}
-use mathlib.Core.Path.{◌≡◌}
 use native.Mathlib.Omega.{arith}
 use borrow.Author.Rules.{rules}
-use borrow.Author.Tests.{not-false}
-use Rattle.tables.specs.Read.{wide_at, schema_at}
-use Rattle.query.specs.Faults.{arg_passes, args_fault}
-use Rattle.query.proofs.Arguments.{args_from, args-done, arg_laws, stop-laws, args-on}
+use Rattle.query.proofs.Arguments.{args-done, arg_laws, stop-laws, args-on}
 use Rattle.query.proofs.args_fault.Goals as goal
 
 pub entry_cell-n-requires : goal.entry_cell-n-requires

@@ -2,12 +2,9 @@
 -- Assumes nothing.
 use Prim.Native.Nat.{◌≤◌, ◌-◌}
 use mathlib.Core.Path.{◌≡◌}
-use native.Mathlib.Omega.{arith}
-use borrow.Author.Rules.{rules}
-use borrow.Author.Tests.{not-false}
 use Rattle.tables.specs.Read.{wide_at, schema_at}
 use Rattle.query.specs.Faults.{arg_passes, args_fault}
-use Rattle.query.proofs.Arguments.{args_from, args-done, arg_laws, stop-laws, args-on}
+use Rattle.query.proofs.Arguments.{args_from}
 use Rattle.query.proofs.args_fault.Given as goal
 
 abbrev pub invariant-loop-i : goal.invariant-loop-i

@@ -1,9 +1,9 @@
-use Prim.Native.Nat.{◌≤◌, ◌-◌}
+use Prim.Native.Nat.{◌≤◌}
 use mathlib.Core.Path.{sym}
 use native.Mathlib.Omega.{arith}
 use borrow.Author.Rules.{rules}
 use Rattle.tables.specs.Read.{cell}
-use Rattle.query.proofs.Lines.{Reached, reached-start, reached_end, reached-stop, reached-on, shallow}
+use Rattle.query.proofs.Lines.{reached-start, reached_end, reached-stop, reached-on, shallow}
 use Rattle.query.proofs.first_entry.Goals as goal
 use Rattle.query.proofs.first_entry.Goals.{After-entry_cell-d}
 

@@ -1,11 +1,8 @@
 -- `query::first_entry` meets its contract. The loop's invariant: no entry before k offends, and the contexts are those at k. The measure
 -- is the entries left. Assumes nothing.
 use Prim.Native.Nat.{◌≤◌, ◌-◌}
-use mathlib.Core.Path.{sym}
-use native.Mathlib.Omega.{arith}
-use borrow.Author.Rules.{rules}
 use Rattle.tables.specs.Read.{cell}
-use Rattle.query.proofs.Lines.{Reached, reached-start, reached_end, reached-stop, reached-on, shallow}
+use Rattle.query.proofs.Lines.{Reached}
 use Rattle.query.proofs.first_entry.Given as goal
 
 abbrev pub invariant-loop-k : goal.invariant-loop-k

@@ -2,12 +2,10 @@
 -- entries left. Assumes nothing.
 use Prim.Native.Nat.{◌≤◌, ◌-◌}
 use mathlib.Core.Path.{◌≡◌}
-use native.Mathlib.Omega.{arith}
-use borrow.Author.Rules.{rules}
 use Rattle.rules.specs.Query.{has_child}
 use Rattle.tables.specs.Read.{cell}
 use Rattle.query.specs.Entries.{entry_at, behind}
-use Rattle.query.proofs.Children.{child_from, child_found, child-laws}
+use Rattle.query.proofs.Children.{child_from}
 use Rattle.query.proofs.has_child.Given as goal
 
 abbrev pub invariant-loop-j : goal.invariant-loop-j

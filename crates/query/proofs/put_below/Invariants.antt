@@ -2,10 +2,8 @@
 -- the places left. Assumes nothing.
 use Prim.Native.Nat.{◌+◌, ◌-◌}
 use mathlib.Core.Path.{◌≡◌}
-use borrow.Author.Rules.{rules}
 use lib.ListN.{length}
 use Rattle.query.specs.Faults.{put_from}
-use Rattle.query.proofs.Lines.{put-laws}
 use Rattle.query.proofs.put_below.Given as goal
 
 abbrev pub invariant-loop-i : goal.invariant-loop-i

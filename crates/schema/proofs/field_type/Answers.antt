@@ -1,5 +1,4 @@
 -- `schema::field_type` meets its contract. Assumes nothing.
-use borrow.Author.Rules.{rules}
 use Rattle.tables.specs.Read.{schema_at}
 use Rattle.schema.proofs.Letters.{kind-laws}
 use Rattle.schema.proofs.field_type.Goals as goal

@@ -1,7 +1,5 @@
-use Prim.Native.Nat.{◌≤◌, ◌-◌}
 use borrow.Author.Rules.{rules}
-use Rattle.tables.specs.Read.{first_at}
-use Rattle.schema.proofs.Searching.{Left, first-laws}
+use Rattle.schema.proofs.Searching.{first-laws}
 use Rattle.schema.proofs.first_in.Goals as goal
 
 pub loop-j-init : goal.loop-j-init

@@ -1,8 +1,7 @@
 -- `schema::first_in` meets its contract. The loop's invariant: the rows before j decide nothing. The measure is the rows left. Assumes nothing.
 use Prim.Native.Nat.{◌≤◌, ◌-◌}
-use borrow.Author.Rules.{rules}
 use Rattle.tables.specs.Read.{first_at}
-use Rattle.schema.proofs.Searching.{Left, first-laws}
+use Rattle.schema.proofs.Searching.{Left}
 use Rattle.schema.proofs.first_in.Given as goal
 
 abbrev pub invariant-loop-j : goal.invariant-loop-j

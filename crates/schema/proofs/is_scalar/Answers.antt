@@ -1,5 +1,4 @@
 -- `schema::is_scalar` meets its contract. Assumes nothing.
-use borrow.Author.Rules.{rules}
 use Rattle.schema.proofs.Letters.{kind-laws}
 use Rattle.schema.proofs.is_scalar.Goals as goal
 

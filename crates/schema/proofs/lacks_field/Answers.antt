@@ -1,13 +1,10 @@
-use Prim.Native.Nat.{◌-◌}
-use mathlib.Core.Logic.{⊎_elim}
 use mathlib.Core.Path.{sym, subst}
 use native.Mathlib.Omega.{arith}
-use borrow.Author.Tests.{not-false}
 use borrow.Author.Rules.{rules}
 use Rattle.tables.specs.Read.{cell}
 use Rattle.index.specs.Index.{head_in, next_in}
 use Rattle.schema.specs.Held.{Bucketed}
-use Rattle.schema.proofs.Searching.{lacks_at, lacks-first, lacks_other, lacks-not, lacks-laws}
+use Rattle.schema.proofs.Searching.{lacks-first, lacks_other, lacks-not, lacks-laws}
 use Rattle.schema.proofs.Following.{Seeking, seek_less, seek_on, seek_bucket}
 use Rattle.schema.proofs.lacks_field.Goals as goal
 use Rattle.schema.proofs.lacks_field.Goals.{then-row_cell-t+else-not-has_field, else-row_cell-t}

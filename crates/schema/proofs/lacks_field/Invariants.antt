@@ -1,16 +1,10 @@
 -- `schema::lacks_field` meets its contract. The loop's invariant: no row before j gives t a field that o lacks, and j is on the chain of t. The
 -- measure is the rows left. Assumes nothing.
 use Prim.Native.Nat.{◌-◌}
-use mathlib.Core.Logic.{⊎_elim}
-use mathlib.Core.Path.{sym, subst}
-use native.Mathlib.Omega.{arith}
-use borrow.Author.Tests.{not-false}
-use borrow.Author.Rules.{rules}
 use Rattle.tables.specs.Read.{cell}
-use Rattle.index.specs.Index.{head_in, next_in}
-use Rattle.schema.specs.Held.{Bucketed}
-use Rattle.schema.proofs.Searching.{lacks_at, lacks-first, lacks_other, lacks-not, lacks-laws}
-use Rattle.schema.proofs.Following.{Seeking, seek_less, seek_on, seek_bucket}
+use Rattle.index.specs.Index.{next_in}
+use Rattle.schema.proofs.Searching.{lacks_at}
+use Rattle.schema.proofs.Following.{Seeking}
 use Rattle.schema.proofs.lacks_field.Given as goal
 
 abbrev pub invariant-loop-j : goal.invariant-loop-j

@@ -1,7 +1,5 @@
-use Prim.Native.Nat.{◌-◌}
 use native.Mathlib.Omega.{arith}
 use mathlib.Core.Path.{sym, ◌∙◌, subst}
-use Rattle.tables.specs.Read.{pair_at}
 use Rattle.index.specs.Index.{head_in, next_in}
 use Rattle.schema.proofs.Searching.{pair_found, pair_ended}
 use Rattle.schema.proofs.Following.{Seeking, seek_less, seek_on, seek_bucket, pair-first}

@@ -1,12 +1,9 @@
 -- `schema::pair_along` meets its contract. The loop's invariant: the rows before j decide nothing, and j is on the chain of x. The measure is
 -- the rows left. Assumes nothing.
 use Prim.Native.Nat.{◌-◌}
-use native.Mathlib.Omega.{arith}
-use mathlib.Core.Path.{sym, ◌∙◌, subst}
 use Rattle.tables.specs.Read.{pair_at}
-use Rattle.index.specs.Index.{head_in, next_in}
-use Rattle.schema.proofs.Searching.{pair_found, pair_ended}
-use Rattle.schema.proofs.Following.{Seeking, seek_less, seek_on, seek_bucket, pair-first}
+use Rattle.index.specs.Index.{next_in}
+use Rattle.schema.proofs.Following.{Seeking}
 use Rattle.schema.proofs.pair_along.Given as goal
 
 abbrev pub invariant-loop-j : goal.invariant-loop-j

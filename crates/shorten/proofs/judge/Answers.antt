@@ -1,7 +1,6 @@
 -- `shorten::judge` meets its contract: what was told of the two sequences, and of both, on each way. Assumes nothing.
 use Rattle.shorten.specs.Judge.{says-yes, says_no, refuses-first, refuses-second}
 use Rattle.shorten.proofs.Verdicts.{told, denied, answers}
-use borrow.Author.Rules.{rules}
 use Rattle.shorten.proofs.judge.Goals as goal
 
 pub returns-then-not-is_response : goal.returns-then-not-is_response

@@ -1,7 +1,4 @@
-use Prim.Native.Nat.{◌-◌}
-use mathlib.Core.Logic.{⊎_elim}
-use lib.ListN.{length}
-use Rattle.shorten.proofs.Walks.{At, begins, next, turn-asks, decides, saved_for_lem, none_saved}
+use Rattle.shorten.proofs.Walks.{begins, next, turn-asks, decides, saved_for_lem, none_saved}
 use borrow.Author.Rules.{rules}
 use Rattle.shorten.proofs.made_from.Goals as goal
 use Rattle.shorten.proofs.made_from.Goals.{then-depth-eq0, else-depth-eq0}

@@ -1,9 +1,7 @@
 -- `shorten::made_from` meets its contract: in each turn the pass stands where `Way` has it. Assumes nothing.
 use Prim.Native.Nat.{◌-◌}
-use mathlib.Core.Logic.{⊎_elim}
 use lib.ListN.{length}
-use Rattle.shorten.proofs.Walks.{At, begins, next, turn-asks, decides, saved_for_lem, none_saved}
-use borrow.Author.Rules.{rules}
+use Rattle.shorten.proofs.Walks.{At}
 use Rattle.shorten.proofs.made_from.Given as goal
 
 abbrev pub invariant-loop-i : goal.invariant-loop-i

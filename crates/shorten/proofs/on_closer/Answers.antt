@@ -1,5 +1,4 @@
 -- `shorten::on_closer` meets its contract: by whether the rest has the bracket. Assumes nothing.
-use borrow.Author.Rules.{rules}
 use Rattle.shorten.proofs.on_closer.Goals as goal
 
 pub returns-then-hit : goal.returns-then-hit

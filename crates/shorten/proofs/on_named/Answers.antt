@@ -1,5 +1,4 @@
 -- `shorten::on_named` meets its contract: by whether the rest has the label. Assumes nothing.
-use borrow.Author.Rules.{rules}
 use Rattle.shorten.proofs.on_named.Goals as goal
 
 pub returns-then-hit : goal.returns-then-hit

@@ -1,6 +1,5 @@
 -- `shorten::on_opener` meets its contract: by whether the rest has the bracket, and whether there is room. Assumes nothing.
-use borrow.Author.Tests.{lt-ltb, le-ltb, not-true, not-false}
-use borrow.Author.Rules.{rules}
+use borrow.Author.Tests.{lt-ltb, le-ltb}
 use Rattle.shorten.proofs.on_opener.Goals as goal
 
 pub returns-then-not-hit : goal.returns-then-not-hit

@@ -1,7 +1,6 @@
 -- `shorten::on_plain` meets its contract: by whether the rest has the value, and whether a label stands in front. Assumes nothing.
 use mathlib.Core.Path.{◌∙◌}
 use Rattle.shorten.proofs.Turns.{plain-stays}
-use borrow.Author.Rules.{rules}
 use Rattle.shorten.proofs.on_plain.Goals as goal
 
 pub returns-then-hit : goal.returns-then-hit

@@ -1,6 +1,5 @@
 -- `shorten::settle` meets its contract: by whether a bracket is open. Assumes nothing.
 use Rattle.shorten.proofs.Turns.{settled-more}
-use borrow.Author.Rules.{rules}
 use Rattle.shorten.proofs.settle.Goals as goal
 
 pub returns : goal.returns

@@ -2,7 +2,6 @@
 use mathlib.Core.Path.{sym, ◌∙◌}
 use borrow.Author.Tests.{eq-eqb, ne_eqb}
 use Rattle.shorten.specs.Pass.{side_of}
-use borrow.Author.Rules.{rules}
 use Rattle.shorten.proofs.side_of.Goals as goal
 
 pub returns-then-is_label : goal.returns-then-is_label

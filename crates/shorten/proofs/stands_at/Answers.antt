@@ -3,7 +3,6 @@ use mathlib.Core.Path.{sym, ap}
 use lib.ListN.{drop_of_length-le}
 use Rattle.tokens.proofs.Checked.{drop_more}
 use Rattle.shorten.specs.Pass.{hits}
-use borrow.Author.Rules.{rules}
 use Rattle.shorten.proofs.stands_at.Goals as goal
 
 pub returns-then-o-s : goal.returns-then-o-s

@@ -3,7 +3,6 @@ use mathlib.Core.Path.{ap, ◌∙◌}
 use native.Mathlib.Omega.{arith}
 use Rattle.shorten.specs.Pass.{settled}
 use Rattle.shorten.proofs.Turns.{closer_settled}
-use borrow.Author.Rules.{rules}
 use Rattle.shorten.proofs.strike.Goals as goal
 
 pub returns-in-Opener : goal.returns-in-Opener

@@ -1,6 +1,5 @@
 -- `shorten::turn` meets its contract: what is struck out, and each arm. Assumes nothing.
 use borrow.Author.Tests.{lt-ltb, le-ltb}
-use borrow.Author.Rules.{rules}
 use Rattle.shorten.proofs.turn.Goals as goal
 
 pub returns-then-w-ge-STRIKING : goal.returns-then-w-ge-STRIKING

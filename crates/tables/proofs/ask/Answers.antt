@@ -1,5 +1,4 @@
 -- `tables::ask` meets its contract. Assumes nothing.
-use borrow.Author.Rules.{rules}
 use Rattle.tables.proofs.Asking.{ask_none, ask_first, ask_more}
 use Rattle.tables.proofs.ask.Goals as goal
 

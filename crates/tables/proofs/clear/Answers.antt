@@ -1,10 +1,8 @@
-use Prim.Native.Nat.{◌-◌, ◌≤◌}
-use mathlib.Core.Path.{◌≡◌, refl}
-use mathlib.Core.List.{◌++◌}
+use mathlib.Core.Path.{refl}
 use native.Mathlib.Omega.{arith}
 use borrow.Author.Rules.{rules}
 use borrow.Author.Fill.{fill_none}
-use lib.ListN.{length, replicate, drop, length-set}
+use lib.ListN.{length-set}
 use Rattle.tables.proofs.Stores.{cleared-on, cleared-all}
 use Rattle.tables.proofs.clear.Goals as goal
 

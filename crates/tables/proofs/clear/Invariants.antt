@@ -1,12 +1,8 @@
 -- `tables::clear` meets its contract. The loop's invariant: zeros up to i, and behind them what stood there. Assumes nothing.
 use Prim.Native.Nat.{◌-◌, ◌≤◌}
-use mathlib.Core.Path.{◌≡◌, refl}
+use mathlib.Core.Path.{◌≡◌}
 use mathlib.Core.List.{◌++◌}
-use native.Mathlib.Omega.{arith}
-use borrow.Author.Rules.{rules}
-use borrow.Author.Fill.{fill_none}
-use lib.ListN.{length, replicate, drop, length-set}
-use Rattle.tables.proofs.Stores.{cleared-on, cleared-all}
+use lib.ListN.{length, replicate, drop}
 use Rattle.tables.proofs.clear.Given as goal
 
 abbrev pub invariant-loop-i : goal.invariant-loop-i

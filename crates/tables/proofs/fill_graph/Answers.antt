@@ -1,13 +1,11 @@
-use Prim.Native.Nat.{◌-◌, ◌<◌}
+use Prim.Native.Nat.{◌<◌}
 use native.Mathlib.Omega.{arith}
 use mathlib.Core.Path.{refl}
-use borrow.Author.Rules.{rules}
-use lib.ListN.{length}
 use Rattle.rules.specs.Text.{rows}
 use Rattle.tables.specs.Fill.{GraphFits}
 use Rattle.tables.proofs.Turns.{Turn, turn, turned-few}
 use Rattle.tables.proofs.Together.{left_rooms}
-use Rattle.tables.proofs.GraphLaying.{GraphLeft, graph-start, graph-on}
+use Rattle.tables.proofs.GraphLaying.{graph-start, graph-on}
 use Rattle.tables.proofs.GraphLaying.{nodes_end, edges_end, properties_end, nodes_all, properties-all, counts_end}
 use Rattle.tables.proofs.Valuing.{valued-room, valued-all}
 use Rattle.tables.proofs.fill_graph.Goals as goal

@@ -1,12 +1,9 @@
-use Prim.Native.Nat.{◌-◌}
 use native.Mathlib.Omega.{arith}
-use borrow.Author.Rules.{rules}
-use lib.ListN.{length}
 use Rattle.rules.specs.Text.{rows}
 use Rattle.tables.proofs.Turns.{Turn, turn, turned-few}
 use Rattle.tables.proofs.Laying.{counted-most}
 use Rattle.tables.proofs.Together.{left_rooms}
-use Rattle.tables.proofs.QueryLaying.{QueryLeft, query-start, query-on, query_end, query-all}
+use Rattle.tables.proofs.QueryLaying.{query-start, query-on, query_end, query-all}
 use Rattle.tables.proofs.fill_query.Goals as goal
 use Rattle.tables.proofs.fill_query.Goals.{After-read_row-r}
 

@@ -1,13 +1,12 @@
-use Prim.Native.Nat.{◌-◌, ◌<◌}
+use Prim.Native.Nat.{◌<◌}
 use native.Mathlib.Omega.{arith}
 use mathlib.Core.Path.{◌≡◌, ◌∙◌}
-use borrow.Author.Rules.{rules}
 use lib.ListN.{length}
 use Rattle.rules.specs.Text.{rows}
 use Rattle.tables.specs.Fill.{SchemaFits}
 use Rattle.tables.proofs.Turns.{Turn, turn, turned-few}
 use Rattle.tables.proofs.Together.{left_rooms}
-use Rattle.tables.proofs.SchemaLaying.{SchemaLeft, schema-start, schema-on, SchemaEnds, schema-ends, schema-all, schema_counts}
+use Rattle.tables.proofs.SchemaLaying.{schema-start, schema-on, SchemaEnds, schema-ends, schema-all, schema_counts}
 use Rattle.tables.proofs.fill_schema.Goals as goal
 use Rattle.tables.proofs.fill_schema.Goals.{After-read_row-r, After-put_in-types, After-put_in-fields, After-put_in-args, After-put_in-has, After-put_in-takes, After-loop-at}
 

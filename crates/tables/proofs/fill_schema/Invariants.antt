@@ -1,14 +1,7 @@
 -- `tables::fill_schema` meets its contract. The loop's invariant: what is left to lay makes the area whole. Assumes nothing.
-use Prim.Native.Nat.{◌-◌, ◌<◌}
-use native.Mathlib.Omega.{arith}
-use mathlib.Core.Path.{◌≡◌, ◌∙◌}
-use borrow.Author.Rules.{rules}
+use Prim.Native.Nat.{◌-◌}
 use lib.ListN.{length}
-use Rattle.rules.specs.Text.{rows}
-use Rattle.tables.specs.Fill.{SchemaFits}
-use Rattle.tables.proofs.Turns.{Turn, turn, turned-few}
-use Rattle.tables.proofs.Together.{left_rooms}
-use Rattle.tables.proofs.SchemaLaying.{SchemaLeft, schema-start, schema-on, SchemaEnds, schema-ends, schema-all, schema_counts}
+use Rattle.tables.proofs.SchemaLaying.{SchemaLeft}
 use Rattle.tables.proofs.fill_schema.Given as goal
 
 abbrev pub invariant-loop-at : goal.invariant-loop-at

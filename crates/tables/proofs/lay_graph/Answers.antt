@@ -6,7 +6,6 @@ use lib.ListN.{length, length-set}
 use Rattle.tables.specs.Fill.{graph_counts_of}
 use Rattle.tables.specs.declared.GraphCounts.{GraphCounts}
 use Rattle.tables.proofs.Laying.{node-laid, property-laid, value-laid}
-use borrow.Author.Rules.{rules}
 use Rattle.tables.proofs.lay_graph.Goals as goal
 use Rattle.tables.proofs.lay_graph.Goals.{After-fill_graph-c}
 

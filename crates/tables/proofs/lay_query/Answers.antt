@@ -3,7 +3,6 @@ use native.Mathlib.Omega.{arith}
 use mathlib.Core.Path.{◌∙◌}
 use lib.ListN.{length-set}
 use Rattle.tables.proofs.Laying.{query-laid}
-use borrow.Author.Rules.{rules}
 use Rattle.tables.proofs.lay_query.Goals as goal
 
 pub fill_query-entries-requires : goal.fill_query-entries-requires

@@ -1,7 +1,6 @@
 -- `tables::lay_schema` meets its contract. Assumes nothing.
 use native.Mathlib.Omega.{arith}
 use Rattle.tables.proofs.Laying.{schema-laid}
-use borrow.Author.Rules.{rules}
 use Rattle.tables.proofs.lay_schema.Goals as goal
 
 pub fill_schema-c-requires : goal.fill_schema-c-requires

@@ -3,7 +3,6 @@ use native.Mathlib.Omega.{arith}
 use lib.ListN.{length-set}
 use Rattle.tables.specs.Fill.{head_of}
 use Rattle.tables.proofs.Stores.{head-stored}
-use borrow.Author.Rules.{rules}
 use Rattle.tables.proofs.put_head.Goals as goal
 
 pub bounds-area-1 : goal.bounds-area-1

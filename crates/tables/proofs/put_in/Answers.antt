@@ -1,5 +1,4 @@
 -- `tables::put_in` meets its contract. Assumes nothing.
-use borrow.Author.Rules.{rules}
 use Rattle.tables.proofs.Together.{room_with, next_with, laid_with, next-without, laid-without}
 use Rattle.tables.proofs.put_in.Goals as goal
 

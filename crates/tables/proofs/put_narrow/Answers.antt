@@ -2,7 +2,6 @@
 use native.Mathlib.Omega.{arith}
 use lib.ListN.{length-set}
 use Rattle.tables.proofs.Stores.{three_stored}
-use borrow.Author.Rules.{rules}
 use Rattle.tables.proofs.put_narrow.Goals as goal
 
 pub bounds-area-place-2 : goal.bounds-area-place-2

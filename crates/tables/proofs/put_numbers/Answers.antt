@@ -1,11 +1,8 @@
-use Prim.Native.Nat.{◌-◌, ◌<◌}
+use Prim.Native.Nat.{◌<◌}
 use native.Mathlib.Omega.{arith}
 use borrow.Author.Rules.{rules}
-use lib.ListN.{length, drop}
-use Rattle.rules.specs.Text.{row}
-use Rattle.text.specs.Number.{ByteAt}
-use Rattle.text.specs.Line.{line_at}
-use Rattle.tables.proofs.Putting.{Putting, Next, none_left, fault_left, next-number, putting_start, putting_room, putting_on, putting_by, putting_count, putting_all}
+use lib.ListN.{length}
+use Rattle.tables.proofs.Putting.{Next, none_left, fault_left, next-number, putting_start, putting_room, putting_on, putting_by, putting_count, putting_all}
 use Rattle.tables.proofs.put_numbers.Goals as goal
 use Rattle.tables.proofs.put_numbers.Goals.{After-byte_at-b-in-loop-b, Then-skip-before}
 

@@ -1,12 +1,10 @@
 -- `tables::put_numbers` meets its contract. The loop's invariant: the numbers that are left make what is to be laid whole. Assumes nothing.
-use Prim.Native.Nat.{◌-◌, ◌<◌}
-use native.Mathlib.Omega.{arith}
-use borrow.Author.Rules.{rules}
+use Prim.Native.Nat.{◌-◌}
 use lib.ListN.{length, drop}
 use Rattle.rules.specs.Text.{row}
 use Rattle.text.specs.Number.{ByteAt}
 use Rattle.text.specs.Line.{line_at}
-use Rattle.tables.proofs.Putting.{Putting, Next, none_left, fault_left, next-number, putting_start, putting_room, putting_on, putting_by, putting_count, putting_all}
+use Rattle.tables.proofs.Putting.{Putting}
 use Rattle.tables.proofs.put_numbers.Given as goal
 
 abbrev pub invariant-loop-b : goal.invariant-loop-b

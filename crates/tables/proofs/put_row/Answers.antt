@@ -1,6 +1,5 @@
 -- `tables::put_row` meets its contract. Assumes nothing.
 use Rattle.tables.proofs.Turns.{row_laws}
-use borrow.Author.Rules.{rules}
 use Rattle.tables.proofs.put_row.Goals as goal
 
 pub put_narrow-requires : goal.put_narrow-requires

@@ -1,9 +1,7 @@
-use Prim.Native.Nat.{◌+◌, ◌-◌, ◌≤◌}
 use mathlib.Core.Path.{◌≡◌, refl, sym, ◌∙◌}
 use native.Mathlib.Omega.{arith}
 use borrow.Author.Rules.{rules}
-use lib.ListN.{length, take, length-set}
-use Rattle.tables.specs.Layout.{laid}
+use lib.ListN.{length, length-set}
 use Rattle.tables.proofs.Stores.{next-stored, wide-stored}
 use Rattle.tables.proofs.Laid.{laid_nil}
 use Rattle.tables.proofs.put_wide.Goals as goal

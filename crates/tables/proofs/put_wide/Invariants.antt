@@ -1,12 +1,8 @@
 -- `tables::put_wide` meets its contract. The loop's invariant: the first i numbers are laid behind the two cells. Assumes nothing.
 use Prim.Native.Nat.{◌+◌, ◌-◌, ◌≤◌}
-use mathlib.Core.Path.{◌≡◌, refl, sym, ◌∙◌}
-use native.Mathlib.Omega.{arith}
-use borrow.Author.Rules.{rules}
-use lib.ListN.{length, take, length-set}
+use mathlib.Core.Path.{◌≡◌}
+use lib.ListN.{length, take}
 use Rattle.tables.specs.Layout.{laid}
-use Rattle.tables.proofs.Stores.{next-stored, wide-stored}
-use Rattle.tables.proofs.Laid.{laid_nil}
 use Rattle.tables.proofs.put_wide.Given as goal
 
 abbrev pub invariant-loop-i : goal.invariant-loop-i

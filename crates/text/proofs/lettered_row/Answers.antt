@@ -1,13 +1,7 @@
-use Prim.Native.Nat.{◌≤◌, ◌-◌}
-use mathlib.Core.Path.{◌≡◌}
-use mathlib.Core.Bool.{true}
 use native.Mathlib.Omega.{arith}
 use borrow.Author.Rules.{rules}
 use lib.Dec.{eqb}
-use lib.ListN.{length, drop}
-use Rattle.text.specs.Number.{ByteAt, stop_in}
-use Rattle.text.specs.Line.{row_at}
-use Rattle.text.proofs.Reading.{row_left, row_laws, start-inside, turn-laws, bit-most}
+use Rattle.text.proofs.Reading.{row_laws, start-inside, turn-laws, bit-most}
 use Rattle.text.proofs.lettered_row.Goals as goal
 
 pub overflow_add-i : goal.overflow_add-i

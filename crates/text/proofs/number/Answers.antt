@@ -1,10 +1,6 @@
-use Prim.Native.Nat.{◌≤◌, ◌-◌}
-use mathlib.Core.Path.{◌≡◌}
 use native.Mathlib.Omega.{arith}
 use borrow.Author.Rules.{rules}
-use lib.ListN.{length}
-use Rattle.text.specs.Number.{DigitAt, number_at}
-use Rattle.text.proofs.Numbers.{read_at, number-laws}
+use Rattle.text.proofs.Numbers.{number-laws}
 use Rattle.text.proofs.number.Goals as goal
 
 pub digit-first-requires : goal.digit-first-requires

@@ -2,11 +2,9 @@
 -- The measure is what is left of the text. Assumes nothing.
 use Prim.Native.Nat.{◌≤◌, ◌-◌}
 use mathlib.Core.Path.{◌≡◌}
-use native.Mathlib.Omega.{arith}
-use borrow.Author.Rules.{rules}
 use lib.ListN.{length}
 use Rattle.text.specs.Number.{DigitAt, number_at}
-use Rattle.text.proofs.Numbers.{read_at, number-laws}
+use Rattle.text.proofs.Numbers.{read_at}
 use Rattle.text.proofs.number.Given as goal
 
 abbrev pub invariant-loop-d : goal.invariant-loop-d

@@ -1,5 +1,4 @@
 -- `text::stops` meets its contract, by what each of its tests says of the byte. Assumes nothing.
-use borrow.Author.Rules.{rules}
 use Rattle.text.proofs.Bytes.{stop-laws}
 use Rattle.text.proofs.stops.Goals as goal
 

@@ -1,5 +1,4 @@
 -- `tokens::finished` meets its contract: only where a field could follow. Assumes nothing.
-use borrow.Author.Rules.{rules}
 use Rattle.tokens.proofs.finished.Goals as goal
 
 pub returns-in-Fields : goal.returns-in-Fields

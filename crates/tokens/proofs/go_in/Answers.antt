@@ -1,6 +1,5 @@
 -- `tokens::go_in` meets its contract: one more is open where there is room. Assumes nothing.
 use borrow.Author.Tests.{lt-ltb, le-ltb}
-use borrow.Author.Rules.{rules}
 use Rattle.tokens.proofs.go_in.Goals as goal
 
 pub returns-then-n-lt-FULL_NEST : goal.returns-then-n-lt-FULL_NEST

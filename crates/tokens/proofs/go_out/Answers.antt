@@ -1,6 +1,5 @@
 -- `tokens::go_out` meets its contract: the last digit says where the object stood. Assumes nothing.
 use borrow.Author.Tests.{lt-ltb, le-ltb, eq-eqb, ne_eqb}
-use borrow.Author.Rules.{rules}
 use Rattle.tokens.proofs.go_out.Goals as goal
 
 pub returns-then-n-lt2 : goal.returns-then-n-lt2

@@ -1,8 +1,5 @@
-use mathlib.Core.Path.{◌≡◌, sym, ap, ◌∙◌}
-use Prim.Native.Nat.{◌≤◌, ◌-◌}
-use lib.ListN.{length, drop}
-use Rattle.tokens.specs.Response.{most_tokens}
-use Rattle.tokens.specs.Check.{start, accepts}
+use mathlib.Core.Path.{sym, ap, ◌∙◌}
+use Rattle.tokens.specs.Check.{accepts}
 use Rattle.tokens.proofs.Checked.{too_long, tells, accepts-more, accepts_end}
 use borrow.Author.Rules.{rules}
 use Rattle.tokens.proofs.is_response.Goals as goal

@@ -1,11 +1,9 @@
 -- `tokens::is_response` meets its contract: what is left is accepted from where the check stands as the whole is from its beginning. Assumes nothing.
-use mathlib.Core.Path.{◌≡◌, sym, ap, ◌∙◌}
+use mathlib.Core.Path.{◌≡◌}
 use Prim.Native.Nat.{◌≤◌, ◌-◌}
 use lib.ListN.{length, drop}
 use Rattle.tokens.specs.Response.{most_tokens}
 use Rattle.tokens.specs.Check.{start, accepts}
-use Rattle.tokens.proofs.Checked.{too_long, tells, accepts-more, accepts_end}
-use borrow.Author.Rules.{rules}
 use Rattle.tokens.proofs.is_response.Given as goal
 
 abbrev pub invariant-loop-i : goal.invariant-loop-i

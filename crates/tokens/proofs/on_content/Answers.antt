@@ -1,6 +1,5 @@
 -- `tokens::on_content` meets its contract: by the tests that led to each return. Assumes nothing.
 use borrow.Author.Tests.{le-leb, lt-leb, eq-eqb, ne_eqb}
-use borrow.Author.Rules.{rules}
 use Rattle.tokens.proofs.on_content.Goals as goal
 
 pub returns-then-x-le-LARGEST_VALUE : goal.returns-then-x-le-LARGEST_VALUE

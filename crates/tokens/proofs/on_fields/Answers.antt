@@ -1,7 +1,6 @@
 -- `tokens::on_fields` meets its contract: a label, the end of the object, or neither. Assumes nothing.
 use mathlib.Core.Path.{sym, ◌∙◌}
 use borrow.Author.Tests.{eq-eqb, ne_eqb}
-use borrow.Author.Rules.{rules}
 use Rattle.tokens.proofs.on_fields.Goals as goal
 
 pub returns-then-is_label : goal.returns-then-is_label

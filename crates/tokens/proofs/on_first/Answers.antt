@@ -1,6 +1,5 @@
 -- `tokens::on_first` meets its contract: a value, or as in a list of objects. Assumes nothing.
 use borrow.Author.Tests.{le-leb, lt-leb}
-use borrow.Author.Rules.{rules}
 use Rattle.tokens.proofs.on_first.Goals as goal
 
 pub returns-then-x-le-LARGEST_VALUE : goal.returns-then-x-le-LARGEST_VALUE

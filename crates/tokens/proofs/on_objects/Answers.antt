@@ -1,6 +1,5 @@
 -- `tokens::on_objects` meets its contract: a further object, the end of the list, or neither. Assumes nothing.
 use borrow.Author.Tests.{eq-eqb, ne_eqb}
-use borrow.Author.Rules.{rules}
 use Rattle.tokens.proofs.on_objects.Goals as goal
 
 pub returns-then-x-eq-OPEN_OBJECT : goal.returns-then-x-eq-OPEN_OBJECT

@@ -1,6 +1,5 @@
 -- `tokens::on_values` meets its contract: a further value, the end of the list, or neither. Assumes nothing.
 use borrow.Author.Tests.{le-leb, lt-leb, eq-eqb, ne_eqb}
-use borrow.Author.Rules.{rules}
 use Rattle.tokens.proofs.on_values.Goals as goal
 
 pub returns-then-x-le-LARGEST_VALUE : goal.returns-then-x-le-LARGEST_VALUE

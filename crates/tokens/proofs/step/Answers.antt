@@ -1,5 +1,4 @@
 -- `tokens::step` meets its contract: each arm, by what the arm says of the mode. Assumes nothing.
-use borrow.Author.Rules.{rules}
 use Rattle.tokens.proofs.step.Goals as goal
 
 pub returns-in-Fields : goal.returns-in-Fields

@@ -1,7 +1,7 @@
 /*
  * Sodgravel for C and C++: sizes and answers queries over one equipment graph, and judges shortened responses.
  *
- * `rt staticlib sodgravel` proves the library and writes target/staticlib/libsodgravel.a, for x86-64 Linux. Link that archive
+ * `bash scripts/archive.sh` proves the library and writes target/staticlib/libsodgravel.a, for x86-64 Linux. Link that archive
  * and nothing else. There are three calls. sodgravel_size tells how long the response to a query is; sodgravel_answer writes it;
  * sodgravel_judge says whether one response is another one shortened.
  *

@@ -1,5 +1,5 @@
-# What tests/run_c.sh and tests/run_rust.sh share. Each sets `name`, its own, and `archive`, and sources this file at the root of the
-# repository. Each step says one line, and the first that fails ends the run.
+# What tests/run_c.sh, tests/run_judge.sh and tests/run_rust.sh share. Each sets `name`, its own, and `archive`, and sources this file
+# at the root of the repository. Each step says one line, and the first that fails ends the run.
 work=$(mktemp -d)
 trap 'rm -rf "$work"' EXIT
 
@@ -33,35 +33,36 @@ wants() {
     esac
 }
 
-# Links all of a folder but one name into another folder.
-link_but() {
+# Links into a folder what another one has and the folder has not.
+link_rest() {
     local part
     for part in "$1"/*; do
-        [ "${part##*/}" = "$3" ] || ln -s "$part" "$2"
+        [ -e "$2/${part##*/}" ] || ln -s "$part" "$2"
     done
 }
 
 # `rt` compiles for x86-64 alone. On Arm the tests link what the same clang makes, for this machine, of the same module: a kit that
 # is the installed one but for its clang, which is asked for another target, and given the module with large results as Arm has them.
+# `rt` takes the kit that its own file lies in, so it is copied.
 arm_kit() {
-    local home own tools kit=$work/kit
-    home=$(dirname "$(dirname "$(rt doc)")")
-    own=on/aarch64
-    tools=$own/toolchain
-    mkdir -p "$kit/$tools/bin"
-    link_but "$home" "$kit" on
-    link_but "$home/$own" "$kit/$own" toolchain
-    link_but "$home/$tools" "$kit/$tools" bin
-    link_but "$home/$tools/bin" "$kit/$tools/bin" clang
-    ln -s "$PWD/tests/clang_on_arm.sh" "$kit/$tools/bin/clang"
-    ln -s "$PWD/tests/results_on_arm.awk" "$kit/$tools/bin"
-    ln -s "$home/$tools/bin/clang" "$kit/$tools/bin/own_clang"
-    export RATTLE_HOME=$kit
+    local home tools kit=$work/kit
+    home=$(dirname "$(rt doc)")
+    tools=$kit/toolchain/bin
+    mkdir -p "$kit/bin" "$tools"
+    cp "$home/bin/rt" "$home/bin/rtlib.py" "$kit/bin"
+    ln -s "$PWD/tests/clang_on_arm.sh" "$tools/clang"
+    ln -s "$PWD/tests/results_on_arm.awk" "$tools"
+    ln -s "$home/toolchain/bin/clang" "$tools/own_clang"
+    link_rest "$home/toolchain/bin" "$tools"
+    link_rest "$home/toolchain" "$kit/toolchain"
+    link_rest "$home/bin" "$kit/bin"
+    link_rest "$home" "$kit"
+    PATH=$kit/bin:$PATH
 }
 
 # Whether the archive is there, for this machine, and newer than every source.
 archive_stands() {
-    [ -f "$archive" ] && [ -z "$(find crates crates.txt -newer "$archive" -type f -print -quit)" ] &&
+    [ -f "$archive" ] && [ -z "$(find crates crates.txt -name out -prune -o -newer "$archive" -type f -print -quit)" ] &&
         readelf -h "$archive" 2>"$work/said" | grep -q "Machine:.*$machine"
 }
 
@@ -70,7 +71,7 @@ build_archive() {
     if archive_stands; then
         say 'the archive is newer than every source'
     else
-        quiet rt staticlib sodgravel
+        quiet bash scripts/archive.sh
         archive_stands || fail "$archive is not for this machine"
         say "the archive is proved and built for $machine"
     fi

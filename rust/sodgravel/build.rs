@@ -1,10 +1,10 @@
-//! Links the archive that `rt staticlib sodgravel` writes. SODGRAVEL_ARCHIVE names another one, by its path.
+//! Links the archive that `bash scripts/archive.sh` writes. SODGRAVEL_ARCHIVE names another one, by its path.
 
 use std::path::{Path, PathBuf};
 
 fn main() {
     let archive = archive();
-    assert!(archive.is_file(), "{} is missing: run `rt staticlib sodgravel`, or set SODGRAVEL_ARCHIVE", archive.display());
+    assert!(archive.is_file(), "{} is missing: run `bash scripts/archive.sh`, or set SODGRAVEL_ARCHIVE", archive.display());
     let name = archive.file_name().and_then(|name| name.to_str());
     assert_eq!(name, Some("libsodgravel.a"), "SODGRAVEL_ARCHIVE must end in libsodgravel.a");
     println!("cargo:rerun-if-env-changed=SODGRAVEL_ARCHIVE");

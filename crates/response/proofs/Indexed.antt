@@ -1,7 +1,6 @@
 -- For accepted texts the World through the index that was laid is the World of the texts, and so are its answers. Assumes nothing.
-use Prim.Native.Nat.{ℕ}
 use mathlib.Core.Path.{◌≡◌, ap, ◌∙◌}
-use lib.ListN.{length, take}
+use lib.ListN.{take}
 use Rattle.rules.specs.World.{World}
 use Rattle.rules.specs.Eval.{eval}
 use Rattle.rules.specs.Sizing.{visits, start, total, cap}

@@ -1,9 +1,8 @@
 -- `graph_text::count_nodes` meets its contract. The loop's invariant: the nodes of the type are those found before u and those from u on.
 -- The measure is the nodes left. Assumes nothing.
 use Prim.Native.Nat.{◌≤◌, ◌-◌}
-use native.Mathlib.Omega.{arith}
 use Rattle.tables.specs.Read.{cell}
-use Rattle.graph_text.proofs.Counting.{Passed, passed_none, passed_hit, passed_miss, passed-all}
+use Rattle.graph_text.proofs.Counting.{Passed}
 use Rattle.graph_text.proofs.count_nodes.Given as goal
 
 abbrev pub invariant-loop-u : goal.invariant-loop-u

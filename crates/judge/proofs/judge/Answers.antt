@@ -1,11 +1,9 @@
 -- `judge::judge` meets its contract: an area that is too short is refused by 2, and else the texts' verdict is given. Assumes nothing.
-use mathlib.Core.Bool.{false}
-use mathlib.Core.List.{List}
 use mathlib.Core.Path.{◌≡◌, sym, ap, ◌∙◌}
 use lib.ListN.{length, take}
 use lib.Seq.{length-take-le}
 use Rattle.checks.specs.Verdict.{refused_by}
-use Rattle.judge.specs.Texts.{lent, too_short_of}
+use Rattle.judge.specs.Texts.{lent}
 use Rattle.judge.proofs.Texts.{too_short_lem, Long, long-areas, widened}
 use Rattle.judge.proofs.judge.Goals as goal
 use Rattle.judge.proofs.judge.Goals.{Else-short}

@@ -5,8 +5,7 @@ use mathlib.Core.Bool.{false}
 use mathlib.Core.List.{List}
 use mathlib.Core.Path.{◌≡◌, refl}
 use lib.ListN.{length}
-use Rattle.masks.specs.Masks.{schema_needed, Masked}
-use Rattle.schema.specs.Held.{SchemaHeld}
+use Rattle.masks.specs.Masks.{schema_needed}
 use Rattle.judge.specs.Texts.{lent, too_short_of}
 use Rattle.judge.proofs.Texts.{enough, schema-refused, held-schema, graph-refused, all-accepted}
 use Rattle.judge.proofs.judge_texts.Goals as goal

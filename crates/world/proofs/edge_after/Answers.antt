@@ -1,7 +1,6 @@
 -- `world::edge_after` meets its contract: the node's chain is entered behind one of its edges. Assumes nothing.
 use native.Mathlib.Omega.{arith}
 use mathlib.Core.Path.{sym, ◌∙◌}
-use borrow.Author.Rules.{rules}
 use Rattle.tables.specs.Read.{cell}
 use Rattle.index.proofs.Chains.{next-on}
 use Rattle.world.specs.World.{edge_from}

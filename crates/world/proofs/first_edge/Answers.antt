@@ -1,6 +1,5 @@
 -- `world::first_edge` meets its contract: the edges are a table, entered at the head of the node's chain. Assumes nothing.
 use native.Mathlib.Omega.{arith}
-use borrow.Author.Rules.{rules}
 use Rattle.tables.specs.Read.{cell}
 use Rattle.index.proofs.Chains.{head-on}
 use Rattle.world.specs.World.{edge_from}

@@ -1,5 +1,4 @@
 -- `world::holds` meets its contract. Assumes nothing.
-use borrow.Author.Rules.{rules}
 use Rattle.world.proofs.Reading.{holds_asked}
 use Rattle.world.proofs.holds.Goals as goal
 

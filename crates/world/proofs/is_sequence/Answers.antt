@@ -1,5 +1,4 @@
 -- `world::is_sequence` meets its contract. Assumes nothing.
-use borrow.Author.Rules.{rules}
 use Rattle.world.proofs.Reading.{sequence_asked}
 use Rattle.world.proofs.is_sequence.Goals as goal
 

@@ -1,7 +1,6 @@
 -- `world::lookup` meets its contract: the properties are a table, entered at the head of the node's chain. Assumes nothing.
 use native.Mathlib.Omega.{arith}
 use mathlib.Core.Path.{◌≡◌}
-use borrow.Author.Rules.{rules}
 use Rattle.tables.specs.Read.{cell}
 use Rattle.index.proofs.Chains.{head-on}
 use Rattle.world.specs.World.{asked_at, row_from}

@@ -1,7 +1,6 @@
-use Prim.Native.Nat.{◌≤◌, ◌-◌}
 use native.Mathlib.Omega.{arith}
 use Rattle.tables.specs.Read.{cell}
-use Rattle.world.proofs.Reading.{RootFrom, root_all, root_found, root_on, root_end}
+use Rattle.world.proofs.Reading.{root_all, root_found, root_on, root_end}
 use Rattle.world.proofs.query_node.Goals as goal
 
 pub query_type-t-requires : goal.query_type-t-requires

@@ -1,9 +1,8 @@
 -- `world::query_node` meets its contract. The loop's invariant: none of the nodes before u is of the query type. The measure is the nodes left.
 -- Assumes nothing.
 use Prim.Native.Nat.{◌≤◌, ◌-◌}
-use native.Mathlib.Omega.{arith}
 use Rattle.tables.specs.Read.{cell}
-use Rattle.world.proofs.Reading.{RootFrom, root_all, root_found, root_on, root_end}
+use Rattle.world.proofs.Reading.{RootFrom}
 use Rattle.world.proofs.query_node.Given as goal
 
 abbrev pub invariant-loop-u : goal.invariant-loop-u

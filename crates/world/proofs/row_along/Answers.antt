@@ -1,9 +1,6 @@
-use Prim.Native.Nat.{◌-◌}
 use native.Mathlib.Omega.{arith}
-use mathlib.Core.Path.{◌≡◌, refl}
-use Rattle.index.specs.Index.{node_at, OnChain}
+use mathlib.Core.Path.{refl}
 use Rattle.index.proofs.Chains.{next-on, next-less}
-use Rattle.world.specs.World.{asked_at, row_from}
 use Rattle.world.proofs.Reading.{from_hit, from_on, from_end}
 use Rattle.world.proofs.row_along.Goals as goal
 

@@ -1,12 +1,9 @@
 -- `world::row_along` meets its contract. The loop's invariant: none of the rows before j matches, and j is on the chain. The measure is the
 -- rows left. Assumes nothing.
 use Prim.Native.Nat.{◌-◌}
-use native.Mathlib.Omega.{arith}
-use mathlib.Core.Path.{◌≡◌, refl}
+use mathlib.Core.Path.{◌≡◌}
 use Rattle.index.specs.Index.{node_at, OnChain}
-use Rattle.index.proofs.Chains.{next-on, next-less}
 use Rattle.world.specs.World.{asked_at, row_from}
-use Rattle.world.proofs.Reading.{from_hit, from_on, from_end}
 use Rattle.world.proofs.row_along.Given as goal
 
 abbrev pub invariant-loop-j : goal.invariant-loop-j

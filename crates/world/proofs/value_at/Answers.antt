@@ -1,6 +1,5 @@
 -- `world::value_at` meets its contract. Assumes nothing.
 use native.Mathlib.Omega.{arith}
-use borrow.Author.Rules.{rules}
 use Rattle.world.proofs.Reading.{value-inside, value-here}
 use Rattle.world.proofs.value_at.Goals as goal
 

@@ -1,5 +1,4 @@
 -- `world::value_count` meets its contract. Assumes nothing.
-use borrow.Author.Rules.{rules}
 use Rattle.world.proofs.Reading.{values-none, values-some}
 use Rattle.world.proofs.value_count.Goals as goal
 

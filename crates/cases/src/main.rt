@@ -11,8 +11,7 @@
 // or 0; refusal number, place, size and visits.
 #![tactic(auto)]
 
-ghost use Rattle.std.specs.Prelude.{◌≤◌, length};
-ghost use Rattle.std.specs.Io.{ReadsAtMost};
+ghost use Rattle.std.specs.Prelude.{◌≡◌, ◌≤◌, length, take};
 
 use rules::Outcome;
 use std::io;
@@ -21,19 +20,20 @@ use std::io::{BufReader, Read};
 // How many bytes of a text are kept: one more than a text may have, so that a longer one is seen to be too long.
 const TEXT_BUFFER: usize = 65536;
 
-// Reads until `bytes` is full or the input ends, and answers how many bytes stand at the start of `bytes`.
-fn read_full(input: &mut impl Read, bytes: &mut [u8]) -> io::Result<usize>
-    ensures { ReadsAtMost result bytes.new }
+// Reads until `bytes` is full, the input ends or a read fails, and answers how many bytes stand at the start of `bytes`.
+fn read_full(input: &mut impl Read, bytes: &mut [u8]) -> usize
+    ensures in_bounds { result ≤ length bytes.new }
+    ensures taken { result ≡ length (take result bytes.new) }
 {
     let mut done = 0;
     while done < bytes.len() {
-        let count = input.read(&mut bytes[done..])?;
+        let count = input.read(&mut bytes[done..]).unwrap_or(0);
         if count == 0 {
             break;
         }
         done += count;
     }
-    Ok(done)
+    done
 }
 
 // The number that ten digits show, if it is below 2 to the 32nd; what remains of a larger one.
@@ -46,10 +46,10 @@ fn shown(digits: &[u8; 11]) -> u32 {
 }
 
 // Reads a number. What the input no longer has of it counts as zeros.
-fn read_number(input: &mut impl Read) -> io::Result<u32> {
+fn read_number(input: &mut impl Read) -> u32 {
     let mut digits = [0u8; 11];
-    read_full(input, &mut digits)?;
-    Ok(shown(&digits))
+    read_full(input, &mut digits);
+    shown(&digits)
 }
 
 // The number, or `most` where that is less.
@@ -62,53 +62,55 @@ fn capped(number: u32, most: usize) -> usize
 }
 
 // Reads how much of an area the case lends.
-fn read_length(input: &mut impl Read, area: &[u32]) -> io::Result<usize>
-    ensures { ReadsAtMost result area.now }
+fn read_length(input: &mut impl Read, area: &[u32]) -> usize
+    ensures in_bounds { result ≤ length area.now }
+    ensures taken { result ≡ length (take result area.now) }
 {
-    Ok(capped(read_number(input)?, area.len()))
+    capped(read_number(input), area.len())
 }
 
 // The same of the rows of multiplicities.
-fn read_wide_length(input: &mut impl Read, area: &[u64]) -> io::Result<usize>
-    ensures { ReadsAtMost result area.now }
+fn read_wide_length(input: &mut impl Read, area: &[u64]) -> usize
+    ensures in_bounds { result ≤ length area.now }
+    ensures taken { result ≡ length (take result area.now) }
 {
-    Ok(capped(read_number(input)?, area.len()))
+    capped(read_number(input), area.len())
 }
 
 // Reads a text with its length, and answers the length.
-fn read_text(input: &mut impl Read, text: &mut [u8]) -> io::Result<usize>
-    ensures { ReadsAtMost result text.new }
+fn read_text(input: &mut impl Read, text: &mut [u8]) -> usize
+    ensures in_bounds { result ≤ length text.new }
+    ensures taken { result ≡ length (take result text.new) }
 {
-    let length = capped(read_number(input)?, text.len());
-    read_full(input, &mut text[..length])?;
-    Ok(length)
+    let length = capped(read_number(input), text.len());
+    read_full(input, &mut text[..length]);
+    length
 }
 
 // Reads as many tokens as are wanted.
-fn fill(input: &mut impl Read, tokens: &mut [u32]) -> io::Result<()> {
+fn fill(input: &mut impl Read, tokens: &mut [u32]) {
     for token in tokens {
-        *token = read_number(input)?;
+        *token = read_number(input);
     }
-    Ok(())
 }
 
 // Reads past `count` numbers.
-fn skip(input: &mut impl Read, count: u32) -> io::Result<()> {
+fn skip(input: &mut impl Read, count: u32) {
     for _ in 0..count {
-        read_number(input)?;
+        read_number(input);
     }
-    Ok(())
 }
 
 // Reads how many tokens a sequence has, and the tokens, of which no more are kept than there is room for; answers how many are kept.
-fn read_tokens(input: &mut impl Read, tokens: &mut [u32]) -> io::Result<usize>
-    ensures { ReadsAtMost result tokens.new }
+fn read_tokens(input: &mut impl Read, tokens: &mut [u32]) -> usize
+    ensures in_bounds { result ≤ length tokens.new }
+    ensures taken { result ≡ length (take result tokens.new) }
 {
-    let count = read_number(input)?;
+    let count = read_number(input);
     let kept = capped(count, tokens.len());
-    fill(input, &mut tokens[..kept])?;
-    skip(input, count - kept as u32)?;
-    Ok(kept)
+    fill(input, &mut tokens[..kept]);
+    skip(input, count - kept as u32);
+    kept
 }
 
 // 1 where something is so, and 0 where it is not.
@@ -200,20 +202,20 @@ fn call_on_texts(
     q: &mut [u32],
     m: &mut [u64],
     buffer: &mut [u32],
-) -> io::Result<Outcome> {
+) -> Outcome {
     let mut schema_text = [0u8; TEXT_BUFFER];
     let mut graph_text = [0u8; TEXT_BUFFER];
     let mut query_text = [0u8; TEXT_BUFFER];
-    let schema_length = read_text(input, &mut schema_text)?;
-    let graph_length = read_text(input, &mut graph_text)?;
-    let query_length = read_text(input, &mut query_text)?;
+    let schema_length = read_text(input, &mut schema_text);
+    let graph_length = read_text(input, &mut graph_text);
+    let query_length = read_text(input, &mut query_text);
     let schema = &schema_text[..schema_length];
     let graph = &graph_text[..graph_length];
     let query = &query_text[..query_length];
     if call == 0 {
-        return Ok(sodgravel::size(schema, graph, query, a, g, p, v, ix, q, m));
+        return sodgravel::size(schema, graph, query, a, g, p, v, ix, q, m);
     }
-    Ok(sodgravel::answer(schema, graph, query, a, g, p, v, ix, q, m, room, buffer))
+    sodgravel::answer(schema, graph, query, a, g, p, v, ix, q, m, room, buffer)
 }
 
 // Runs a case in areas and a buffer that are lent, and writes its line but for the case's number.
@@ -231,7 +233,7 @@ fn run_in(
     m: &mut [u64],
     buffer: &mut [u32],
 ) -> io::Result<()> {
-    let outcome = call_on_texts(input, call, room, a, g, p, v, ix, q, m, buffer)?;
+    let outcome = call_on_texts(input, call, room, a, g, p, v, ix, q, m, buffer);
     print_outcome(rt, outcome)?;
     print_left(rt, a, g, p, v, ix, q, m)?;
     print_field(rt, digest(buffer))?;
@@ -243,8 +245,8 @@ fn run_in(
 fn run_judging(rt: &impl Print, input: &mut impl Read) -> io::Result<()> {
     let mut full = [0u32; 16385];
     let mut shortened = [0u32; 16385];
-    let full_length = read_tokens(input, &mut full)?;
-    let shortened_length = read_tokens(input, &mut shortened)?;
+    let full_length = read_tokens(input, &mut full);
+    let shortened_length = read_tokens(input, &mut shortened);
     let reply = shorten::judge(&full[..full_length], &shortened[..shortened_length]);
     print_field(rt, u64::from(reply.yes))?;
     print_outcome(rt, reply.outcome)?;
@@ -254,8 +256,8 @@ fn run_judging(rt: &impl Print, input: &mut impl Read) -> io::Result<()> {
 // Reads the numbers of a call that sizes or answers, and runs it. An area is at most one number longer than needed, and the buffer
 // than the largest room.
 fn run_call(rt: &impl Print, input: &mut impl Read, call: u32) -> io::Result<()> {
-    let room = read_number(input)?;
-    let filling = read_number(input)?;
+    let room = read_number(input);
+    let filling = read_number(input);
     let mut a = [filling; 14729];
     let mut g = [filling; 15881];
     let mut p = [filling; 14345];
@@ -264,14 +266,14 @@ fn run_call(rt: &impl Print, input: &mut impl Read, call: u32) -> io::Result<()>
     let mut q = [filling; 3593];
     let mut m = [u64::from(filling); 8193];
     let mut buffer = [filling; 16385];
-    let a_length = read_length(input, &a)?;
-    let g_length = read_length(input, &g)?;
-    let p_length = read_length(input, &p)?;
-    let v_length = read_length(input, &v)?;
-    let ix_length = read_length(input, &ix)?;
-    let q_length = read_length(input, &q)?;
-    let m_length = read_wide_length(input, &m)?;
-    let buffer_length = read_length(input, &buffer)?;
+    let a_length = read_length(input, &a);
+    let g_length = read_length(input, &g);
+    let p_length = read_length(input, &p);
+    let v_length = read_length(input, &v);
+    let ix_length = read_length(input, &ix);
+    let q_length = read_length(input, &q);
+    let m_length = read_wide_length(input, &m);
+    let buffer_length = read_length(input, &buffer);
     run_in(
         rt,
         input,
@@ -290,7 +292,7 @@ fn run_call(rt: &impl Print, input: &mut impl Read, call: u32) -> io::Result<()>
 
 // Runs a case.
 fn run_case(rt: &impl Print, input: &mut impl Read) -> io::Result<()> {
-    let call = read_number(input)?;
+    let call = read_number(input);
     if call == 2 {
         run_judging(rt, input)
     } else {
@@ -300,7 +302,7 @@ fn run_case(rt: &impl Print, input: &mut impl Read) -> io::Result<()> {
 
 fn main(rt: HostRuntime) -> io::Result<()> {
     let mut input = BufReader::new(rt.alloc(), rt.reader())?;
-    let count = read_number(&mut input)?;
+    let count = read_number(&mut input);
     for i in 0..count {
         let case = i + 1;
         print!(rt; "{case}")?;

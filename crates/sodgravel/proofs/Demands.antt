@@ -12,7 +12,7 @@ use Rattle.rules.specs.World.{Shape}
 use Rattle.rules.specs.Eval.{label, answer as shownBehind}
 use Rattle.rules.specs.Sizing.{cap}
 use Rattle.rules.specs.Answer.{Texts, world_of, response, visits_in}
-use Rattle.rules.specs.Answer.{Numbered, checks, answer_checks, areas_after, refused, sized, answered, space, written}
+use Rattle.rules.specs.Answer.{Numbered, checks, answer_checks, areas_after, refused, sized, answered, space}
 use Rattle.rules.specs.Contract.{Passed, Least, Shows, Exact, Exceeds, Fits, Written, AllZeros, Answers}
 use Rattle.rules.specs.declared.Spot.{Spot}
 use Rattle.rules.specs.declared.Outcome.{Outcome}

@@ -33,7 +33,7 @@ modules. In the table of docs/WRONG_ANSWERS.md the first column names functions 
 edits; the last is what the prover printed, and is not looked at.
 
 A document may name what is no longer there: `name` (gone), or several names with commas between them and (gone) behind the last.
-docs/PORT.md tells what other kits called things, and is not read.
+docs/PORT.md tells what other kits called things, and docs/DESIGN-PASS.md what things were called before it; neither is read.
 
 Of an edit each `old:` stands exactly once in the file of its crate that `file:` names, as the pairs before it leave that file. What
 stands before the dot in the name of one of tests/wrong_answers is a function of the crate.
@@ -61,7 +61,7 @@ FOLDERS = "docs crates tests rust scripts examples include .ci".split()
 ENDINGS = tuple(".md .antt .rt .rs .c .h .py .sh .awk .txt .edit .toml .a".split())
 BUILT = ("out", "target")
 SKIPPED = (".git", "__pycache__", *BUILT)
-OF_OTHER_KITS = ("docs/PORT.md",)
+OF_OTHER_KITS = ("docs/PORT.md", "docs/DESIGN-PASS.md")
 
 # ---- the forms of names
 
@@ -184,6 +184,15 @@ def split_python(text):
 
 
 # ---- what is defined
+
+
+# Functions that have another name now, or went into another: their edits keep the names that they had.
+NOW_NAMED = {("form", "or_count"): "worse", ("query", "entry_cell"): "cell"}
+
+
+def now_named(crate, function):
+    """The name that a function has now, after which its edits were named."""
+    return NOW_NAMED.get((crate, function), function)
 
 
 class Names:
@@ -388,7 +397,8 @@ class Finder:
         path = self.where[0]
         near = () if path.endswith(".md") or name in EXEMPT else self.names.words(path)
         if name not in EXEMPT and not self.names.has(ANY.sub("*", name)) and name not in near:
-            self.report(f"`{name}`: nothing of this name is defined")
+            if self.where[0] != "docs/WRONG_ANSWERS.md" or name not in {old for _, old in NOW_NAMED}:
+                self.report(f"`{name}`: nothing of this name is defined")
 
     def member(self, span):
         """A.b: b is a member of the record or the class A."""
@@ -447,7 +457,7 @@ class Finder:
                         self.report(f"{cells[0]}: no such module")
             elif path == "docs/WRONG_ANSWERS.md" and crate in self.names.sources:
                 for function in SPAN.findall(cells[0]):
-                    if not self.names.has_function(crate, function):
+                    if not self.names.has_function(crate, now_named(crate, function)):
                         self.report(f"`{function}`: crates/{crate}/src has no such function")
                 if cells[1].removesuffix(" (gate)") not in comments.get(crate, ()):
                     self.report(f"no edit of {crate} has this comment: {cells[1]}")
@@ -457,7 +467,7 @@ class Finder:
         crate, _, label = name.partition("/")
         function = label.split(".")[0]
         self.where = (path, 1)
-        if path.startswith("tests/") and not self.names.has_function(crate, function):
+        if path.startswith("tests/") and not self.names.has_function(crate, now_named(crate, function)):
             self.report(f"crates/{crate}/src has no function {function}, after which the edit is named")
         texts, file, old, pairs = {}, "", "", 0
         for number, line in enumerate(self.names.texts[path].split("\n"), 1):

@@ -68,11 +68,13 @@ class Source:
         self.bodies = {}
         self.files = {}
         folder = self.folder = os.path.join(ROOT, "crates", crate, "src")
+        lib = open(os.path.join(folder, "lib.rt"), encoding="utf-8").read()
+        self.open = {"lib.rt"} | {f"{name}.rt" for name in re.findall(r"^pub mod (\w+);", lib, re.M)}
         for file in sorted(os.listdir(folder), key=lambda file: (file != "lib.rt", file)):
             self.read(folder, file)
 
     def read(self, folder, file):
-        """The functions of a file. Public are those of lib.rt, and those that have a C name."""
+        """The functions of a file. Public are those of lib.rt and of its public modules, and those that have a C name."""
         name, end = "", ""
         for line in open(os.path.join(folder, file), encoding="utf-8").read().split("\n"):
             found = FUNCTION.match(line)
@@ -80,7 +82,7 @@ class Source:
                 name, end = found.group(4), found.group(1) + "}"
                 self.bodies[name] = ""
                 self.files[name] = f"src/{file}"
-                if found.group(3) or (found.group(2) and file == "lib.rt"):
+                if found.group(3) or (found.group(2) and file in self.open):
                     self.public.append(name)
             if name:
                 self.bodies[name] += line + "\n"
@@ -221,7 +223,7 @@ def libraries():
     for line in open(os.path.join(ROOT, "crates.txt"), encoding="utf-8"):
         crate = line.partition(":")[0].partition(" ")[0].strip()
         path = os.path.join(ROOT, "crates", crate, "src", "lib.rt")
-        if os.path.isfile(path) and re.search(r"^pub (?:extern \"C\" )?fn", open(path, encoding="utf-8").read(), re.M):
+        if os.path.isfile(path) and re.search(r"^ *pub (?:extern \"C\" )?fn", open(path, encoding="utf-8").read(), re.M):
             found.append(crate)
     return found
 

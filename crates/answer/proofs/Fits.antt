@@ -1,9 +1,11 @@
--- An accepted answer's size is not above the length that the response buffer has after the call. Assumes nothing.
+-- An accepted answer's size is not above the length that the response buffer has after the call, which so has all of the response.
+-- Assumes nothing.
 use Prim.Native.Nat.{ℕ, ◌≤◌}
 use native.Mathlib.Omega.{arith}
 use mathlib.Core.Path.{◌≡◌, ap, sym, ◌∙◌}
 use mathlib.Core.List.{List}
-use lib.ListN.{length}
+use lib.ListN.{length, take}
+use Rattle.std.proofs.lemmas.List.{length-take-le}
 use Rattle.rules.specs.Answer.{Texts, answered}
 use Rattle.rules.specs.declared.Outcome.{Outcome}
 use Rattle.rules.proofs.Outcomes.{AnswerCase, accepts, overflows, refuses, answer-case}
@@ -28,3 +30,7 @@ module _ (w : Lent) (m : List ℕ) (x : Texts) (room : ℕ) (buffer : List ℕ) 
   accepted-fits o after is left h =
       let fits = accepted-size (answer-case (any_short w m) x room buffer) (sym (ap (λ (r : Outcome). r.number) is) ∙ h) in
       omega (arith, ap (λ (r : Outcome). r.size) is, ap length left, same_length, fits)
+
+  pub accepted-whole : (o : Outcome) (after : List ℕ) → o ≡ answered_in w m x room buffer → after ≡ buffer_in w m x room buffer
+      → o.number ≡ 0 → o.size ≡ length (take o.size after)
+  accepted-whole o after is left h = sym (length-take-le o.size after (accepted-fits o after is left h))

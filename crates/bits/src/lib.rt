@@ -9,10 +9,7 @@ ghost use Rattle.bits.specs.Bits.{bit};
 pub fn has_bit(m: u64, o: u32) -> bool
     ensures { result ≡ bit m o }
 {
-    if 64 <= o {
-        return false;
-    }
-    m >> o & 1 == 1
+    o < 64 && m >> o & 1 == 1
 }
 
 // The number with bit o set.

@@ -11,301 +11,252 @@
 // or 0; refusal number, place, size and visits.
 #![tactic(auto)]
 
-ghost use Rattle.std.specs.Prelude.{◌≡◌, ◌≤◌, length, take};
+ghost use Rattle.std.specs.Prelude.{◌≡◌, ◌≤◌};
+ghost use Rattle.cases.specs.Call.{call_of};
 
+use programs::{
+    Fields, INDEX_AREA, MOST_TOKENS, NODES_AREA, PROPERTIES_AREA, QUERY_AREA, ROWS_AREA,
+    SCHEMA_AREA, TEXT_BUFFER, VALUES_AREA,
+};
 use rules::Outcome;
-use std::io;
 use std::io::{BufReader, Read};
+use std::{fmt, io};
 
-// How many bytes of a text are kept: one more than a text may have, so that a longer one is seen to be too long.
-const TEXT_BUFFER: usize = 65536;
+// What a call does with three texts.
+#[derive(Clone, Copy)]
+enum Wanted {
+    Size,
+    Answer,
+}
 
-// Reads until `bytes` is full, the input ends or a read fails, and answers how many bytes stand at the start of `bytes`.
-fn read_full(input: &mut impl Read, bytes: &mut [u8]) -> usize
-    ensures in_bounds { result ≤ length bytes.new }
-    ensures taken { result ≡ length (take result bytes.new) }
-{
-    let mut done = 0;
-    while done < bytes.len() {
-        let count = input.read(&mut bytes[done..]).unwrap_or(0);
-        if count == 0 {
-            break;
+// The call that a case makes.
+#[derive(Clone, Copy)]
+enum Call {
+    OnTexts(Wanted),
+    Judge,
+}
+
+impl From<u32> for Call {
+    ghost from_gives = { λ number call. call ≡ call_of number };
+
+    fn from(number: u32) -> Call {
+        match number {
+            0 => Call::OnTexts(Wanted::Size),
+            2 => Call::Judge,
+            _ => Call::OnTexts(Wanted::Answer),
         }
-        done += count;
-    }
-    done
-}
-
-// The number that ten digits show, if it is below 2 to the 32nd; what remains of a larger one.
-fn shown(digits: &[u8; 11]) -> u32 {
-    let mut number: u64 = 0;
-    for i in 0..10 {
-        number = number % 1_000_000_000 * 10 + (digits[i] % 16) as u64;
-    }
-    (number % 4_294_967_296) as u32
-}
-
-// Reads a number. What the input no longer has of it counts as zeros.
-fn read_number(input: &mut impl Read) -> u32 {
-    let mut digits = [0u8; 11];
-    read_full(input, &mut digits);
-    shown(&digits)
-}
-
-// The number, or `most` where that is less.
-fn capped(number: u32, most: usize) -> usize
-    ensures upper_bound { result ≤ most }
-    ensures upper_bound_2 { result ≤ number }
-{
-    let given = number as usize;
-    if given < most { given } else { most }
-}
-
-// Reads how much of an area the case lends.
-fn read_length(input: &mut impl Read, area: &[u32]) -> usize
-    ensures in_bounds { result ≤ length area.now }
-    ensures taken { result ≡ length (take result area.now) }
-{
-    capped(read_number(input), area.len())
-}
-
-// The same of the rows of multiplicities.
-fn read_wide_length(input: &mut impl Read, area: &[u64]) -> usize
-    ensures in_bounds { result ≤ length area.now }
-    ensures taken { result ≡ length (take result area.now) }
-{
-    capped(read_number(input), area.len())
-}
-
-// Reads a text with its length, and answers the length.
-fn read_text(input: &mut impl Read, text: &mut [u8]) -> usize
-    ensures in_bounds { result ≤ length text.new }
-    ensures taken { result ≡ length (take result text.new) }
-{
-    let length = capped(read_number(input), text.len());
-    read_full(input, &mut text[..length]);
-    length
-}
-
-// Reads as many tokens as are wanted.
-fn fill(input: &mut impl Read, tokens: &mut [u32]) {
-    for token in tokens {
-        *token = read_number(input);
     }
 }
 
-// Reads past `count` numbers.
-fn skip(input: &mut impl Read, count: u32) {
-    for _ in 0..count {
-        read_number(input);
+// What a case lends to a call on texts: the seven areas and the buffer.
+#[derive(Drop)]
+struct Areas<'a> {
+    schema: &'a mut [u32],
+    nodes: &'a mut [u32],
+    properties: &'a mut [u32],
+    values: &'a mut [u32],
+    index: &'a mut [u32],
+    query: &'a mut [u32],
+    rows: &'a mut [u64],
+    buffer: &'a mut [u32],
+}
+
+impl Areas<'_> {
+    // Sizes the query.
+    fn size(&mut self, schema: &[u8], graph: &[u8], query: &[u8]) -> Outcome {
+        sodgravel::size(
+            schema,
+            graph,
+            query,
+            self.schema,
+            self.nodes,
+            self.properties,
+            self.values,
+            self.index,
+            self.query,
+            self.rows,
+        )
+    }
+
+    // Answers the query in a room.
+    fn answer(&mut self, schema: &[u8], graph: &[u8], query: &[u8], room: u32) -> Outcome {
+        sodgravel::answer(
+            schema,
+            graph,
+            query,
+            self.schema,
+            self.nodes,
+            self.properties,
+            self.values,
+            self.index,
+            self.query,
+            self.rows,
+            room,
+            self.buffer,
+        )
     }
 }
 
-// Reads how many tokens a sequence has, and the tokens, of which no more are kept than there is room for; answers how many are kept.
-fn read_tokens(input: &mut impl Read, tokens: &mut [u32]) -> usize
-    ensures in_bounds { result ≤ length tokens.new }
-    ensures taken { result ≡ length (take result tokens.new) }
-{
-    let count = read_number(input);
-    let kept = capped(count, tokens.len());
-    fill(input, &mut tokens[..kept]);
-    skip(input, count - kept as u32);
-    kept
-}
-
-// 1 where something is so, and 0 where it is not.
-fn one_if(is_so: bool) -> usize
-    ensures { result ≤ 1 }
-{
-    if is_so { 1 } else { 0 }
+// What a call left in what it was lent: how many numbers of each area are not zero, and the digest of the buffer.
+impl fmt::Display for Areas<'_> {
+    fn fmt<W: fmt::Write>(&self, f: &mut fmt::Formatter<W>) -> fmt::Result {
+        let schema = count_nonzero(self.schema);
+        let nodes = count_nonzero(self.nodes);
+        let properties = count_nonzero(self.properties);
+        let values = count_nonzero(self.values);
+        let index = count_nonzero(self.index);
+        let query = count_nonzero(self.query);
+        let rows = count_nonzero(self.rows);
+        let digest = digest(self.buffer);
+        write!(
+            f,
+            "{schema}\t{nodes}\t{properties}\t{values}\t{index}\t{query}\t{rows}\t{digest}"
+        )
+    }
 }
 
 // How many numbers of an area are not zero.
-fn count_nonzero(area: &[u32]) -> usize
-    ensures { result ≤ length area.now }
-{
-    let mut count: usize = 0;
-    for number in area {
-        count += one_if(*number != 0);
-    }
-    count
-}
-
-// The same of the rows of multiplicities.
-fn count_wide_nonzero(area: &[u64]) -> usize
-    ensures { result ≤ length area.now }
-{
-    let mut count: usize = 0;
-    for number in area {
-        count += one_if(*number != 0);
-    }
-    count
+fn count_nonzero<T: Copy + Into<u64>>(area: &[T]) -> usize {
+    area.iter().filter(|number| (**number).into() != 0).count()
 }
 
 // A digest with one further number.
 fn mixed(digest: u64, number: u32) -> u64 {
-    digest % 4_294_967_291 * 1_000_003 + number as u64 + 1
+    digest % 4_294_967_291 * 1_000_003 + u64::from(number) + 1
 }
 
 // A number that depends on every number of a buffer and on where it stands.
 fn digest(buffer: &[u32]) -> u64 {
-    let mut sum: u64 = 0;
-    for number in buffer {
-        sum = mixed(sum, *number);
+    buffer
+        .iter()
+        .fold(0, |digest, number| mixed(digest, *number))
+}
+
+// A number with one further digit. Of a number with more than nine the last nine are kept.
+fn with_digit(number: u64, digit: u8) -> u64 {
+    number % 1_000_000_000 * 10 + u64::from(digit % 16)
+}
+
+// The number that ten digits show, if it is below 2 to the 32nd; what remains of a larger one.
+fn shown(digits: &[u8]) -> u32 {
+    let number = digits
+        .iter()
+        .fold(0, |number, digit| with_digit(number, *digit));
+    (number % 4_294_967_296) as u32
+}
+
+// Reads a number: ten digits, and the byte behind them. What the input no longer has of it counts as zeros.
+fn read_number(input: &mut impl Read) -> u32 {
+    let mut digits = [0u8; 11];
+    programs::read_full(input, &mut digits);
+    shown(&digits[..10])
+}
+
+// The number, or `most` where that is less.
+fn capped(number: u32, most: usize) -> usize
+    ensures { result ≤ most }
+{
+    most.min(number as usize)
+}
+
+// Reads how much of a buffer the case has, and gives that much of it.
+fn read_part<'a, T>(input: &mut impl Read, buffer: &'a mut [T]) -> &'a mut [T] {
+    let length = capped(read_number(input), buffer.len());
+    &mut buffer[..length]
+}
+
+// Reads a text, behind its length. What the input no longer has of it stays as it is.
+fn read_text<'a>(input: &mut impl Read, buffer: &'a mut [u8]) -> &'a [u8] {
+    let text = read_part(input, buffer);
+    programs::read_full(input, text);
+    text
+}
+
+// Reads how many tokens a sequence has, and the tokens, of which no more are kept than there is room for.
+fn read_tokens<'a>(input: &mut impl Read, buffer: &'a mut [u32]) -> &'a [u32] {
+    let count = read_number(input);
+    let kept = capped(count, buffer.len());
+    for token in &mut buffer[..kept] {
+        *token = read_number(input);
     }
-    sum
-}
-
-// Writes a tab and a number.
-fn print_field(rt: &impl Print, number: u64) -> io::Result<()> {
-    print!(rt; "\t{number}")
-}
-
-// Writes what a call returned.
-fn print_outcome(rt: &impl Print, outcome: Outcome) -> io::Result<()> {
-    print_field(rt, u64::from(outcome.number))?;
-    print_field(rt, u64::from(outcome.place))?;
-    print_field(rt, u64::from(outcome.size))?;
-    print_field(rt, u64::from(outcome.visits))
-}
-
-// Writes how many numbers of each area are not zero.
-fn print_left(
-    rt: &impl Print,
-    a: &[u32],
-    g: &[u32],
-    p: &[u32],
-    v: &[u32],
-    ix: &[u32],
-    q: &[u32],
-    m: &[u64],
-) -> io::Result<()> {
-    print_field(rt, count_nonzero(a) as u64)?;
-    print_field(rt, count_nonzero(g) as u64)?;
-    print_field(rt, count_nonzero(p) as u64)?;
-    print_field(rt, count_nonzero(v) as u64)?;
-    print_field(rt, count_nonzero(ix) as u64)?;
-    print_field(rt, count_nonzero(q) as u64)?;
-    print_field(rt, count_wide_nonzero(m) as u64)
+    for _ in kept..count as usize {
+        read_number(input);
+    }
+    &buffer[..kept]
 }
 
 // Reads the three texts, and makes the call on them.
 fn call_on_texts(
     input: &mut impl Read,
-    call: u32,
+    wanted: Wanted,
     room: u32,
-    a: &mut [u32],
-    g: &mut [u32],
-    p: &mut [u32],
-    v: &mut [u32],
-    ix: &mut [u32],
-    q: &mut [u32],
-    m: &mut [u64],
-    buffer: &mut [u32],
+    areas: &mut Areas<'_>,
 ) -> Outcome {
-    let mut schema_text = [0u8; TEXT_BUFFER];
-    let mut graph_text = [0u8; TEXT_BUFFER];
-    let mut query_text = [0u8; TEXT_BUFFER];
-    let schema_length = read_text(input, &mut schema_text);
-    let graph_length = read_text(input, &mut graph_text);
-    let query_length = read_text(input, &mut query_text);
-    let schema = &schema_text[..schema_length];
-    let graph = &graph_text[..graph_length];
-    let query = &query_text[..query_length];
-    if call == 0 {
-        return sodgravel::size(schema, graph, query, a, g, p, v, ix, q, m);
+    let mut schema_buffer = [0u8; TEXT_BUFFER];
+    let mut graph_buffer = [0u8; TEXT_BUFFER];
+    let mut query_buffer = [0u8; TEXT_BUFFER];
+    let schema = read_text(input, &mut schema_buffer);
+    let graph = read_text(input, &mut graph_buffer);
+    let query = read_text(input, &mut query_buffer);
+    match wanted {
+        Wanted::Size => areas.size(schema, graph, query),
+        Wanted::Answer => areas.answer(schema, graph, query, room),
     }
-    sodgravel::answer(schema, graph, query, a, g, p, v, ix, q, m, room, buffer)
 }
 
-// Runs a case in areas and a buffer that are lent, and writes its line but for the case's number.
-fn run_in(
-    rt: &impl Print,
-    input: &mut impl Read,
-    call: u32,
-    room: u32,
-    a: &mut [u32],
-    g: &mut [u32],
-    p: &mut [u32],
-    v: &mut [u32],
-    ix: &mut [u32],
-    q: &mut [u32],
-    m: &mut [u64],
-    buffer: &mut [u32],
-) -> io::Result<()> {
-    let outcome = call_on_texts(input, call, room, a, g, p, v, ix, q, m, buffer);
-    print_outcome(rt, outcome)?;
-    print_left(rt, a, g, p, v, ix, q, m)?;
-    print_field(rt, digest(buffer))?;
-    println!(rt)
+// Reads the numbers of a call on texts, runs it, and writes its line but for the case's number. An area is at most one number longer
+// than needed, and the buffer than the largest room.
+fn run_on_texts(rt: &impl Print, input: &mut impl Read, wanted: Wanted) -> io::Result<()> {
+    let room = read_number(input);
+    let filling = read_number(input);
+    let mut schema = [filling; SCHEMA_AREA + 1];
+    let mut nodes = [filling; NODES_AREA + 1];
+    let mut properties = [filling; PROPERTIES_AREA + 1];
+    let mut values = [filling; VALUES_AREA + 1];
+    let mut index = [filling; INDEX_AREA + 1];
+    let mut query = [filling; QUERY_AREA + 1];
+    let mut rows = [u64::from(filling); ROWS_AREA + 1];
+    let mut buffer = [filling; MOST_TOKENS + 1];
+    let mut areas = Areas {
+        schema: read_part(input, &mut schema),
+        nodes: read_part(input, &mut nodes),
+        properties: read_part(input, &mut properties),
+        values: read_part(input, &mut values),
+        index: read_part(input, &mut index),
+        query: read_part(input, &mut query),
+        rows: read_part(input, &mut rows),
+        buffer: read_part(input, &mut buffer),
+    };
+    let outcome = Fields(call_on_texts(input, wanted, room, &mut areas));
+    println!(rt; "{outcome}\t{areas}")
 }
 
 // Reads two sequences, judges them, and writes the line but for the case's number. Of a sequence that is longer than any response one
 // token more than the most is kept.
 fn run_judging(rt: &impl Print, input: &mut impl Read) -> io::Result<()> {
-    let mut full = [0u32; 16385];
-    let mut shortened = [0u32; 16385];
-    let full_length = read_tokens(input, &mut full);
-    let shortened_length = read_tokens(input, &mut shortened);
-    let reply = shorten::judge(&full[..full_length], &shortened[..shortened_length]);
-    print_field(rt, u64::from(reply.yes))?;
-    print_outcome(rt, reply.outcome)?;
-    println!(rt)
-}
-
-// Reads the numbers of a call that sizes or answers, and runs it. An area is at most one number longer than needed, and the buffer
-// than the largest room.
-fn run_call(rt: &impl Print, input: &mut impl Read, call: u32) -> io::Result<()> {
-    let room = read_number(input);
-    let filling = read_number(input);
-    let mut a = [filling; 14729];
-    let mut g = [filling; 15881];
-    let mut p = [filling; 14345];
-    let mut v = [filling; 8201];
-    let mut ix = [filling; 3073];
-    let mut q = [filling; 3593];
-    let mut m = [u64::from(filling); 8193];
-    let mut buffer = [filling; 16385];
-    let a_length = read_length(input, &a);
-    let g_length = read_length(input, &g);
-    let p_length = read_length(input, &p);
-    let v_length = read_length(input, &v);
-    let ix_length = read_length(input, &ix);
-    let q_length = read_length(input, &q);
-    let m_length = read_wide_length(input, &m);
-    let buffer_length = read_length(input, &buffer);
-    run_in(
-        rt,
-        input,
-        call,
-        room,
-        &mut a[..a_length],
-        &mut g[..g_length],
-        &mut p[..p_length],
-        &mut v[..v_length],
-        &mut ix[..ix_length],
-        &mut q[..q_length],
-        &mut m[..m_length],
-        &mut buffer[..buffer_length],
-    )
+    let mut full_buffer = [0u32; MOST_TOKENS + 1];
+    let mut shortened_buffer = [0u32; MOST_TOKENS + 1];
+    let full = read_tokens(input, &mut full_buffer);
+    let shortened = read_tokens(input, &mut shortened_buffer);
+    let reply = shorten::judge(full, shortened);
+    let yes = reply.yes;
+    let outcome = Fields(reply.outcome);
+    println!(rt; "{yes}\t{outcome}")
 }
 
 // Runs a case.
 fn run_case(rt: &impl Print, input: &mut impl Read) -> io::Result<()> {
-    let call = read_number(input);
-    if call == 2 {
-        run_judging(rt, input)
-    } else {
-        run_call(rt, input, call)
+    match Call::from(read_number(input)) {
+        Call::OnTexts(wanted) => run_on_texts(rt, input, wanted),
+        Call::Judge => run_judging(rt, input),
     }
 }
 
 fn main(rt: HostRuntime) -> io::Result<()> {
     let mut input = BufReader::new(rt.alloc(), rt.reader())?;
     let count = read_number(&mut input);
-    for i in 0..count {
-        let case = i + 1;
-        print!(rt; "{case}")?;
+    for case in 1..=count {
+        print!(rt; "{case}\t")?;
         run_case(&rt, &mut input)?;
     }
     Ok(())

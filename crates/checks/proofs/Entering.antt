@@ -5,7 +5,7 @@ use native.Mathlib.Omega.{arith}
 use mathlib.Core.Path.{◌≡◌, refl, ap, ap₂, ◌∙◌}
 use mathlib.Core.Bool.{Bool, true, false, cond, ◌&&◌, ◌||◌, not}
 use mathlib.Core.List.{List, [], ◌∷◌, map}
-use mathlib.Core.Option.{none, some}
+use Rattle.std.specs.Prelude.{None, Some}
 use lib.Dec.{eqb, leb, ltb}
 use lib.ListN.{length, get_or, take, drop, replicate, length-drop, length-replicate}
 use Rattle.rules.specs.Lists.{count_up}
@@ -26,7 +26,8 @@ use Rattle.tables.proofs.Laid.{laid-length, laid_in, laid-drop, laid_part}
 use Rattle.tables.proofs.Wide.{StandsWide, padded-pairs, wide-table_length, wide_tag, wide-number, wide_numbers}
 use Rattle.tables.proofs.Labelling.{each_at}
 use Rattle.query.specs.Entries.{QueryHeld, entry_at, entries_from as entriesOf, entries_at}
-use Rattle.query.specs.Faults.{check_for}
+use Rattle.query.specs.Faults.{check_for, entry_number as number_of}
+use Rattle.query.specs.declared.EntryCheck.{EntryCheck}
 use Rattle.checks.proofs.Fitting.{those-all, query-row}
 
 -- a row as its entry holds it: its letter, and its first twelve numbers, zeros after them
@@ -119,7 +120,7 @@ pub record QueryFormed (r : Row) : Type 0 where
   pub few : at r 3 ≤ 4
   pub long : is F r ≡ true → 4 + 2 * at r 3 ≤ length r.numbers
 
-pub query-formed : (s : List ℕ) → text_form query_forms s ≡ none → Each QueryFormed (rows s)
+pub query-formed : (s : List ℕ) → text_form query_forms s ≡ None → Each QueryFormed (rows s)
 query-formed s h =
     rows-each query_forms QueryFormed
     (λ l k. let q = query-row (row l) k.formed in record { few = q.0; long = q.1 }) s h
@@ -234,12 +235,12 @@ search_from check same before n [] f = refl
 search_from check same before n (r ∷ rs) f =
     let ih = search_from check same (r ∷ before) (suc n) rs f.1 in
     let now = same before r rs f.0 in
-    λ i. elim (now i) [ none ↦ ih i | some g ↦ some (spot n g) ]
+    λ i. elim (now i) [ None ↦ ih i | Some g ↦ Some (spot n g) ]
 
-pub query_search : (k : ℕ) (s : Schema) (rs : List Row) → Each QueryFormed rs
+pub query_search : (k : EntryCheck) (s : Schema) (rs : List Row) → Each QueryFormed rs
     → first_line (check_for k s) (map shown rs) ≡ first_line (check_for k s) rs
 unfolding check_for
-query_search k s rs f = go (eqb k 32) (eqb k 33)
+query_search k s rs f = go (eqb (number_of k) 32) (eqb (number_of k) 33)
   where
     chosen : Bool → Bool → Check Row
     chosen a b = cond a steps (cond b (check33 s) (check34 s))

@@ -4,7 +4,7 @@ use native.Mathlib.Omega.{arith}
 use mathlib.Core.Path.{◌≡◌, refl, sym, ap, subst}
 use mathlib.Core.Bool.{Bool, true, false, not, ◌&&◌, true≢false, false≢true}
 use mathlib.Core.List.{List, [], ◌∷◌}
-use mathlib.Core.Option.{none}
+use Rattle.std.specs.Prelude.{None}
 use lib.Dec.{eqb}
 use lib.ListN.{length, length-append, get_or-eq_default}
 use borrow.Author.Tests.{leb-false, ltb-false, eqb-true, not-false}
@@ -44,13 +44,13 @@ module _ (check : Check Row) (p : Row → Bool) (w : Row → ℕ) (n : ℕ)
           omega arith
       go ih false e = (rw (e, keep_if) at ih) h
 
-  total-fits : (rs : List Row) → first_line check rs ≡ none → sum_of w (those p rs) ≤ n
+  total-fits : (rs : List Row) → first_line check rs ≡ None → sum_of w (those p rs) ≤ n
   total-fits rs h = omega (arith, total-from [] rs (clean check [] 1 rs h) (omega arith))
 
 -- the rows of a kind: each has fewer than n before it, so that there are at most n
 count_fits : (check : Check Row) (p : Row → Bool) (n : ℕ)
     → ((before : List Row) (r : Row) (after : List Row) → Calm (check before r after) → p r ≡ true → length (those p before) < n)
-    → (rs : List Row) → first_line check rs ≡ none → length (those p rs) ≤ n
+    → (rs : List Row) → first_line check rs ≡ None → length (those p rs) ≤ n
 count_fits check p n keeps rs h =
     omega (
       arith,
@@ -61,7 +61,7 @@ count_fits check p n keeps rs h =
 
 -- ---- the schema
 
-pub schema-fits : (rs : List Row) → first_line check11 rs ≡ none → SchemaFits rs
+pub schema-fits : (rs : List Row) → first_line check11 rs ≡ None → SchemaFits rs
 unfolding counted belongs
 schema-fits rs h =
     record {
@@ -88,7 +88,7 @@ abbrev MemberSound : Schema → Row → Type 0
 MemberSound s r = is M r ≡ true → (has_members s (type_no (at r 0)) ≡ true) × (is_object s (type_no (at r 1)) ≡ true)
 
 -- the schema of rows that pass 11 and 12 has sound members
-module _ (rs : List Row) (fits : SchemaFits rs) (h : first_line (check12 (schema_of rs)) rs ≡ none) where
+module _ (rs : List Row) (fits : SchemaFits rs) (h : first_line (check12 (schema_of rs)) rs ≡ None) where
   abbrev s : Schema
   s = schema_of rs
 
@@ -127,12 +127,12 @@ values_length : (ps : List Row) → length (each values_of ps) ≡ sum_of (λ p.
 values_length [] = refl
 values_length (p ∷ ps) = omega (arith, length-append (values_of p) (each values_of ps), values_length ps)
 
-values_fit : (rs : List Row) → first_line check21 rs ≡ none → sum_of (λ p. length (values_of p)) (those (is P) rs) ≤ 8192
+values_fit : (rs : List Row) → first_line check21 rs ≡ None → sum_of (λ p. length (values_of p)) (those (is P) rs) ≤ 8192
 values_fit rs h =
     total-fits check21 (is P) (λ p. length (values_of p)) 8192
     (λ b r a c e. ltb-false 8192 (length (values_of r) + sum_of (λ p. length (values_of p)) (those (is P) b)) (c.1.1.1.0 e).0) rs h
 
-pub graph-fits : (rs : List Row) → first_line check21 rs ≡ none → GraphFits rs
+pub graph-fits : (rs : List Row) → first_line check21 rs ≡ None → GraphFits rs
 unfolding counted belongs all_values
 graph-fits rs h =
     record {
@@ -149,7 +149,7 @@ pub those-all : (rs : List Row) → those (λ _. true) rs ≡ rs
 those-all [] = refl
 those-all (r ∷ rs) = ap (λ (l : List Row). r ∷ l) (those-all rs)
 
-pub query-fits : (rs : List Row) → first_line check31 rs ≡ none → (length rs ≤ 256) × Each (λ r. depth r ≤ 15) rs
+pub query-fits : (rs : List Row) → first_line check31 rs ≡ None → (length rs ≤ 256) × Each (λ r. depth r ≤ 15) rs
 query-fits rs h = (
   rw those-all at few,
   clean-each check31 (λ r. depth r ≤ 15) (λ b r a c. ltb-false 15 (depth r) (c.0 refl).1.0) [] rs (clean check31 [] 1 rs h),
@@ -178,7 +178,7 @@ graph-row_few r h = go (eqb r.letter N) (eqb r.letter E) (eqb r.letter P) refl r
     go false false true p q t = ltb-false 4 (at r 3) (rw (p, q, t, form_tests) at h).1.1.1.0
     go false false false p q t = absurd (true≢false (rw (p, q, t, form_tests) at h).0)
 
-pub graph-few : (s : List ℕ) → text_form graph_forms s ≡ none → Each (λ r. at r 3 ≤ 4) (rows s)
+pub graph-few : (s : List ℕ) → text_form graph_forms s ≡ None → Each (λ r. at r 3 ≤ 4) (rows s)
 graph-few s h = rows-each graph_forms (λ r. at r 3 ≤ 4) (λ l k. graph-row_few (row l) k.formed) s h
 
 -- and a field of the query has all its pairs
@@ -195,5 +195,5 @@ query-row r h = go (eqb r.letter F) (eqb r.letter T) refl refl
     go false true p q = (no_fourth r 2 (omega arith) (rw (p, q, form_tests) at h).0, λ k. absurd (clash k p))
     go false false p q = absurd (true≢false (rw (p, q, form_tests) at h).0)
 
-pub query-few : (s : List ℕ) → text_form query_forms s ≡ none → Each (λ r. at r 3 ≤ 4) (rows s)
+pub query-few : (s : List ℕ) → text_form query_forms s ≡ None → Each (λ r. at r 3 ≤ 4) (rows s)
 query-few s h = rows-each query_forms (λ r. at r 3 ≤ 4) (λ l k. (query-row (row l) k.formed).0) s h

@@ -1,36 +1,33 @@
 -- The verdict on a text: the number and the spot of the first check that is offended. Assumes nothing.
-use Rattle.std.specs.Prelude.{ℕ, ◌+◌, List, [], ◌∷◌, ◌++◌, Bool, true, cond, ◌≡◌, eqb, length}
-use Rattle.rules.specs.Lists.{among}
-use Rattle.rules.specs.Search.{Check, first_line, spot, whole}
-use Rattle.rules.specs.Text.{Row, rows}
+use Rattle.std.specs.Prelude.{ℕ, ◌+◌, List, [], ◌∷◌, ◌++◌, Bool, ◌≡◌, length, Result, Ok, Err, ⊤}
+use Rattle.rules.specs.Search.{first_line, whole}
+use Rattle.rules.specs.Text.{rows}
 use Rattle.rules.specs.Forms.{text_form}
-use Rattle.rules.specs.Schema.{schema_of, check11, check12, check13, check14, check15, check16}
-use Rattle.rules.specs.Graph.{check21}
-use Rattle.rules.specs.Query.{check31}
+use Rattle.rules.specs.Schema.{schema_of, check12, check13, check14, check15, check16}
 use Rattle.rules.specs.Answer.{Texts, Numbered, ◌by◌, verdict, schema_in, schema_checks, graph_checks, query_checks}
 use Rattle.rules.specs.declared.Spot.{Spot}
 use Rattle.masks.specs.Masks.{schema_area}
-use Rattle.form.specs.Form.{forms_of}
-use Rattle.checks.specs.declared.Verdict.{Verdict}
+use Rattle.rules.specs.Kinds.{first_check, forms_of, maxima_of}
+use Rattle.rules.specs.declared.TextKind.{TextKind}
+use Rattle.rules.specs.declared.Refusal.{Refusal}
 
--- "number 0, place 0" where none is offended
+-- What a text's checks come to: nothing where none is offended, and else the refusal by the first that is.
+abbrev pub Verdict : Type 0
+Verdict = Result ⊤ Refusal
+
 unfoldable pub refused_by : ℕ → Spot → Verdict
-refused_by n p = record { number = n; spot = p }
+refused_by n p = Err (record { number = n; spot = p })
+
+abbrev pub accepted : Verdict
+accepted = Ok tt
 
 unfoldable pub judged : List Numbered → Verdict
-judged cs = verdict refused_by (refused_by 0 (spot 0 0)) cs
+judged cs = verdict refused_by accepted cs
 
--- the numbers of the checks that open a text's
-unfoldable pub Opens : ℕ → Type 0
-Opens n = among n (10 ∷ 20 ∷ 30 ∷ []) ≡ true
-
--- the maxima of a text, by the number of its first check
-unfoldable pub maxima_of : ℕ → Check Row
-maxima_of n = cond (eqb n 10) check11 (cond (eqb n 20) check21 check31)
-
--- the first two checks of a text, by the number of the first: its form and its maxima
-unfoldable pub form_checks : ℕ → List ℕ → List Numbered
-form_checks n text = n by text_form (forms_of n) text ∷ (n + 1) by first_line (maxima_of n) (rows text) ∷ []
+-- the first two checks of a text: its form and its maxima
+unfoldable pub form_checks : TextKind → List ℕ → List Numbered
+form_checks k text =
+    first_check k by text_form (forms_of k) text ∷ (first_check k + 1) by first_line (maxima_of k) (rows text) ∷ []
 
 -- the checks of a schema's text behind 11
 unfoldable pub later_schema : List ℕ → List Numbered
@@ -56,4 +53,4 @@ text_checks short x =
 pub record SchemaJudged (text : List ℕ) (n : ℕ) (area : List ℕ) (v : Verdict) : Type 0 where
   pub is : v ≡ judged (schema_checks text)
   pub long : length area ≡ n
-  pub held : v.number ≡ 0 → area ≡ schema_area n (rows text)
+  pub held : v ≡ accepted → area ≡ schema_area n (rows text)

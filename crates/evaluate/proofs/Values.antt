@@ -1,19 +1,17 @@
 -- Writing a property's values one after another, and what a lookup shows. Assumes nothing.
-use Prim.Native.Nat.{ℕ, ◌+◌, ◌≤◌, ◌<◌}
+use Rattle.std.specs.Prelude.{Option, None, Some}
+use Prim.Native.Nat.{ℕ, ◌+◌, ◌<◌}
 use native.Mathlib.Numerals.{add-one}
-use native.Mathlib.Omega.{arith}
-use mathlib.Core.Path.{◌≡◌, refl, sym, ap, ◌∙◌}
+use mathlib.Core.Path.{◌≡◌, refl, ap, ◌∙◌}
 use mathlib.Core.Bool.{true, false, cond}
 use mathlib.Core.List.{List, [], ◌∷◌}
 use lib.Dec.{eqb}
-use lib.ListN.{length, get_or, drop, drop_of_length-le, get_or-eq_default}
+use lib.ListN.{length, get_or, drop}
 use lib.Seq.{drop-cons}
 use Rattle.rules.specs.Graph.{Label, one, many}
 use Rattle.rules.specs.Eval.{value, null, open_list, close_list}
 use Rattle.tables.specs.Read.{wide_at, values_at}
 use Rattle.world.specs.World.{lookup_at, found_by}
-use Rattle.world.specs.declared.Property.{Property}
-use Rattle.world.specs.declared.Property.TheVariants.{Row, Nothing}
 use Rattle.evaluate.proofs.Write.{Then, Between}
 
 -- ---- values, one after another: n is how many there are
@@ -23,22 +21,15 @@ module _ (values : List ℕ) (n : ℕ) (all : n ≡ length values) where
   pub values-next : (i x : ℕ) → i < n → x ≡ get_or values i 0 → Then (drop i values) (x ∷ []) (drop (i + 1) values)
   values-next i x h e = record { eq = drop-cons values i 0 (rw all at h) ∙ rw (e, add-one i) refl }
 
-  pub values-done : (i : ℕ) → n ≤ i → drop i values ≡ []
-  values-done i h = drop_of_length-le values (rw all at h)
-
-  -- where there are none, the first is 0
-  pub values-none : n ≡ 0 → 0 ≡ get_or values 0 0
-  values-none e = sym (get_or-eq_default values 0 (omega (arith, all, e)))
-
 -- ---- what a lookup shows
 
 module _ (p v : List ℕ) (u : ℕ) (l : Label) where
   -- no property: null
-  pub shows-null : lookup_at p u l ≡ Nothing → value (found_by p v (lookup_at p u l)) ≡ null ∷ []
+  pub shows-null : lookup_at p u l ≡ None → value (found_by p v (lookup_at p u l)) ≡ null ∷ []
   unfolding found_by
-  shows-null e = ap (λ (r : Property). value (found_by p v r)) e
+  shows-null e = ap (λ (r : Option ℕ). value (found_by p v r)) e
 
-  module _ (j : ℕ) (row : lookup_at p u l ≡ Row j) where
+  module _ (j : ℕ) (row : lookup_at p u l ≡ Some j) where
     -- what row j says
     found-row : found_by p v (lookup_at p u l)
         ≡ cond (eqb (wide_at p 8 j 4) 1) (many (values_at p v j)) (one (get_or (values_at p v j) 0 0))

@@ -1,21 +1,17 @@
--- The algebra of writing tokens: nothing, one store, one run after another, what is left to write, and brackets. Assumes nothing.
+-- The algebra of writing tokens: nothing, one run after another, what is left to write, and brackets. Assumes nothing.
 use mathlib.Core.Path.{◌≡◌, refl, sym, ap, subst, subst₂, ◌∙◌}
 use mathlib.Core.List.{List, [], ◌∷◌, ◌++◌, append_assoc, append-nil}
-use Prim.Native.Nat.{ℕ, ◌+◌, ◌≤◌, ◌<◌}
+use Prim.Native.Nat.{ℕ, ◌+◌, ◌≤◌}
 use native.Mathlib.Nat.{add-zero}
-use native.Mathlib.Numerals.{add-one}
 use native.Mathlib.Omega.{arith}
-use lib.ListN.{length, take, drop, set, length-append, length-drop, take-append-drop}
-use lib.Seq.{take_at, drop_at, drop-drop, length-take-le, set_split}
+use lib.ListN.{length, take, drop, length-append, length-drop, take-append-drop}
+use lib.Seq.{take_at, drop_at, drop-drop, length-take-le}
 use Rattle.evaluate.specs.Write.{Room, Wrote}
 
--- ---- nothing, one store, one run after another
+-- ---- nothing, and one run after another
 
 pub wrote_none : (o : List ℕ) (at : ℕ) → Wrote o at [] o at
 wrote_none o at = record { place = sym (add-zero at); content = sym (rw (add-zero, take-append-drop)) }
-
-pub wrote_one : (o : List ℕ) (at x : ℕ) → at < length o → Wrote o at (x ∷ []) (set o at x) (at + 1)
-wrote_one o at x h = record { place = refl; content = rw add-one (set_split o at x h) }
 
 pub wrote_then : {o o₁ o₂ a b : List ℕ} {at p r : ℕ} → at + length a + length b ≤ length o
     → Wrote o at a o₁ p → Wrote o₁ p b o₂ r → Wrote o at (a ++ b) o₂ r
@@ -113,9 +109,6 @@ module _ {o all inside : List ℕ} {at x y : ℕ} (h : Room o at all) (b : Betwe
   opening = record { eq = b.eq }
 
   -- room for each in turn, and then all is written
-  pub between_room : Room o at (x ∷ [])
-  between_room = part_room h opening (part_none o at all)
-
   module _ {o₁ : List ℕ} {p : ℕ} (w : Wrote o at (x ∷ []) o₁ p) where
     opened : Part o at all (inside ++ (y ∷ [])) o₁ p
     opened = part_step h opening (part_none o at all) w

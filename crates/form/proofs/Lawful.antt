@@ -3,7 +3,7 @@ use Prim.Native.Nat.{ℕ, zero, suc, ◌+◌, ◌*◌, ◌≤◌}
 use mathlib.Core.Path.{◌≡◌, refl, sym, ap, subst, ◌∙◌}
 use mathlib.Core.Bool.{Bool, true, false, not, cond, ◌&&◌}
 use mathlib.Core.List.{List, [], ◌∷◌, ◌++◌}
-use mathlib.Core.Option.{Option, some}
+use Rattle.std.specs.Prelude.{Option, Some}
 use native.Mathlib.Omega.{arith}
 use lib.Dec.{eqb, ltb, eqb-suc-zero}
 use lib.ListN.{length, get_or, take, drop}
@@ -19,10 +19,13 @@ use Rattle.rules.proofs.Parting.{Filled, fields-filled}
 use Rattle.text.specs.Line.{padded, bad_field, is_letter, unread_row, read_row, row_from}
 use Rattle.text.proofs.Rows.{padded-at}
 use Rattle.text.proofs.Tools.{by_test}
-use Rattle.form.specs.Form.{forms_of, count_fault, mark_fault, pairs_fault, labelled_fault, valued_fault}
+use Rattle.rules.specs.Kinds.{forms_of}
+use Rattle.rules.specs.declared.TextKind.{TextKind}
+use Rattle.rules.specs.declared.TextKind.TheVariants.{Schema, Graph, Query}
+use Rattle.form.specs.Form.{count_fault, mark_fault, pairs_fault, labelled_fault, valued_fault}
 use Rattle.form.specs.Form.{schema_fault, graph_fault, query_fault, form_fault, line_fault}
-use Rattle.form.proofs.Worse.{worse-none, worse_assoc, worse_comm, fault-append, gives_way, gives_way_to, same-twice}
-use Rattle.form.proofs.Worse.{wins, from_less, each_from, pairs-from}
+use Rattle.form.proofs.Faults.{worse-none, worse_assoc, worse_comm, fault-append, gives_way, gives_way_to, same-twice}
+use Rattle.form.proofs.Faults.{wins, from_less, each_from, pairs-from}
 
 -- ---- the row of the rules, of a letter and numbers
 
@@ -61,15 +64,14 @@ query-capitals : Capitals query_forms
 unfolding is_letter
 query-capitals = (refl, (refl, tt))
 
-capitals : (which : ℕ) → Capitals (forms_of which)
+capitals : (kind : TextKind) → Capitals (forms_of kind)
 unfolding forms_of
-capitals which =
-    by_test (eqb which 10)
-    (λ t. simp t schema-capitals)
-    (λ t. by_test (eqb which 20) (λ u. simp (t, u) graph-capitals) (λ u. simp (t, u) query-capitals))
+capitals Schema = schema-capitals
+capitals Graph = graph-capitals
+capitals Query = query-capitals
 
-pub no_letter : (which l : ℕ) (ns : List ℕ) → is_letter l ≡ false → form_tests (forms_of which) (row_with l ns) ≡ (1 # true) ∷ []
-no_letter which l ns n = no_form (forms_of which) (row_with l ns) (no_capital l (forms_of which) n (capitals which))
+pub no_letter : (kind : TextKind) (l : ℕ) (ns : List ℕ) → is_letter l ≡ false → form_tests (forms_of kind) (row_with l ns) ≡ (1 # true) ∷ []
+no_letter kind l ns n = no_form (forms_of kind) (row_with l ns) (no_capital l (forms_of kind) n (capitals kind))
 
 -- ---- fields that are no numbers: the first of them is the smallest
 
@@ -196,12 +198,11 @@ module _ (ns : List ℕ) (l : ℕ) where
       R : ℕ → Type 0
       R k = Agrees schema_fault schema_forms ns k
 
-  pub form_lawful : (which : ℕ) → form_fault which l (length ns) (padded 12 ns) ≡ fault_of (form_tests (forms_of which) (row_with l ns))
+  pub form_lawful : (kind : TextKind) → form_fault kind l (length ns) (padded 12 ns) ≡ fault_of (form_tests (forms_of kind) (row_with l ns))
   unfolding form_fault forms_of
-  form_lawful which =
-      by_test (eqb which 10)
-      (λ t. simp t schema-form)
-      (λ t. by_test (eqb which 20) (λ u. simp (t, u) graph-form) (λ u. simp (t, u) query-form))
+  form_lawful Schema = schema-form
+  form_lawful Graph = graph-form
+  form_lawful Query = query-form
 
 -- ---- a line, from its fields
 
@@ -209,18 +210,18 @@ not-zero : (l : ℕ) → is_letter l ≡ true → eqb l 0 ≡ false
 unfolding is_letter
 not-zero l h = by_test (eqb l 0) (λ t. absurd (clash h (ap is_letter (eqb-true l 0 t)))) (λ t. t)
 
-module _ (which : ℕ) (ended : Bool) (n : ℕ) where
+module _ (kind : TextKind) (ended : Bool) (n : ℕ) where
   abbrev Told : List (List ℕ) → Option ℕ
-  Told ss = worse (fault_if (not ended) 0) (fault_of (field_tests (forms_of which) ss))
+  Told ss = worse (fault_if (not ended) 0) (fault_of (field_tests (forms_of kind) ss))
 
   -- without a capital letter in front the letter is at fault
   unlettered : (l : ℕ) (fs : List (List ℕ)) (ns : List ℕ) → is_letter l ≡ false
-      → worse (fault_if (not ended) 0) (fault_of (test_each (λ s. not (is_number s)) 1 2 fs ++ form_tests (forms_of which) (row_with l ns))) ≡ some 1
+      → worse (fault_if (not ended) 0) (fault_of (test_each (λ s. not (is_number s)) 1 2 fs ++ form_tests (forms_of kind) (row_with l ns))) ≡ Some 1
   unlettered l fs ns h =
       ap (worse (fault_if (not ended) 0))
-      (fault-append (test_each (λ s. not (is_number s)) 1 2 fs) (form_tests (forms_of which) (row_with l ns))
-      ∙ ap (λ (ts : List Test). worse (bad_tests 2 fs) (fault_of ts)) (no_letter which l ns h)
-      ∙ worse_comm (bad_tests 2 fs) (some 1)
+      (fault-append (test_each (λ s. not (is_number s)) 1 2 fs) (form_tests (forms_of kind) (row_with l ns))
+      ∙ ap (λ (ts : List Test). worse (bad_tests 2 fs) (fault_of ts)) (no_letter kind l ns h)
+      ∙ worse_comm (bad_tests 2 fs) (Some 1)
       ∙ wins 1 (bad_tests 2 fs) (omega arith) (from_less 1 2 (bad_tests 2 fs) (omega arith) (each_from (λ s. not (is_number s)) 2 fs)))
       ∙ gives_way (not ended) 0
 
@@ -231,25 +232,25 @@ module _ (which : ℕ) (ended : Bool) (n : ℕ) where
   read_join zero x = refl
   read_join (suc k) x = simp (eqb-suc-zero k) (sym (gives_way_to (not ended) k x))
 
-  lettered : (l : ℕ) (fs : List (List ℕ)) → is_letter l ≡ true → line_fault which (read_row l fs ended n) ≡ Told ((l ∷ []) ∷ fs)
+  lettered : (l : ℕ) (fs : List (List ℕ)) → is_letter l ≡ true → line_fault kind (read_row l fs ended n) ≡ Told ((l ∷ []) ∷ fs)
   unfolding line_fault read_row
   lettered l fs h =
       simp (not-zero l h)
-      (read_join (bad_field 2 fs) (form_fault which l (length (leading fs)) (padded 12 (leading fs)))
+      (read_join (bad_field 2 fs) (form_fault kind l (length (leading fs)) (padded 12 (leading fs)))
       ∙ ap (worse (fault_if (not ended) 0))
-      (ap (λ (x : Option ℕ). worse x (form_fault which l (length (leading fs)) (padded 12 (leading fs)))) (sym (bad_is 1 fs))
-      ∙ ap (worse (bad_tests 2 fs)) (form_lawful (leading fs) l which)
-      ∙ sym (fault-append (test_each (λ s. not (is_number s)) 1 2 fs) (form_tests (forms_of which) (row_with l (leading fs))))))
+      (ap (λ (x : Option ℕ). worse x (form_fault kind l (length (leading fs)) (padded 12 (leading fs)))) (sym (bad_is 1 fs))
+      ∙ ap (worse (bad_tests 2 fs)) (form_lawful (leading fs) l kind)
+      ∙ sym (fault-append (test_each (λ s. not (is_number s)) 1 2 fs) (form_tests (forms_of kind) (row_with l (leading fs))))))
 
   -- the fields of a line that is not empty
-  Some : List (List ℕ) → Type 0
-  Some [] = ⊥
-  Some ([] ∷ []) = ⊥
-  Some ([] ∷ f ∷ fs) = Unit {0}
-  Some ((b ∷ s) ∷ fs) = Unit {0}
+  Written : List (List ℕ) → Type 0
+  Written [] = ⊥
+  Written ([] ∷ []) = ⊥
+  Written ([] ∷ f ∷ fs) = Unit {0}
+  Written ((b ∷ s) ∷ fs) = Unit {0}
 
-  fields_lawful : (ss : List (List ℕ)) → Some ss → line_fault which (row_from ss ended n) ≡ Told ss
-  unfolding line_fault row_from unread_row is_letter Some
+  fields_lawful : (ss : List (List ℕ)) → Written ss → line_fault kind (row_from ss ended n) ≡ Told ss
+  unfolding line_fault row_from unread_row is_letter Written
   fields_lawful [] w = absurd w
   fields_lawful ([] ∷ []) w = absurd w
   fields_lawful ([] ∷ f ∷ fs) w = sym (unlettered 0 (f ∷ fs) [] refl)
@@ -257,30 +258,30 @@ module _ (which : ℕ) (ended : Bool) (n : ℕ) where
       by_test (is_letter b) (λ t. simp t (lettered b fs t)) (λ t. simp t (sym (unlettered b fs (leading fs) t)))
   fields_lawful ((b ∷ c ∷ s) ∷ fs) w = sym (unlettered 0 fs [] refl)
 
-  first_some : (b : ℕ) (fs : List (List ℕ)) → Filled fs → Some (on_first_field b fs)
-  unfolding Some
+  first_some : (b : ℕ) (fs : List (List ℕ)) → Filled fs → Written (on_first_field b fs)
+  unfolding Written
   first_some b [] w = tt
   first_some b (f ∷ fs) w = tt
 
-  tab-some : (fs : List (List ℕ)) → Filled fs → Some ([] ∷ fs)
-  unfolding Some
+  tab-some : (fs : List (List ℕ)) → Filled fs → Written ([] ∷ fs)
+  unfolding Written
   tab-some [] w = w
   tab-some (f ∷ fs) w = tt
 
-  fields-some : (b : ℕ) (s : List ℕ) → Some (fields (b ∷ s))
+  fields-some : (b : ℕ) (s : List ℕ) → Written (fields (b ∷ s))
   fields-some b s =
       by_test (eqb b tab)
       (λ t. rw (t, fields) (tab-some (fields s) (fields-filled s)))
       (λ t. rw (t, fields) (first_some b (fields s) (fields-filled s)))
 
-  bytes_lawful : (s : List ℕ) → line_fault which (row_from (fields s) ended n) ≡ worse (fault_if (not ended) 0) (fault_of (line_tests (forms_of which) s))
+  bytes_lawful : (s : List ℕ) → line_fault kind (row_from (fields s) ended n) ≡ worse (fault_if (not ended) 0) (fault_of (line_tests (forms_of kind) s))
   unfolding line_fault row_from unread_row
   bytes_lawful [] = sym (same-twice (not ended))
   bytes_lawful (b ∷ s) = fields_lawful (fields (b ∷ s)) (fields-some b s)
 
 -- what the code's definition says of a line's row is what the rules say of the line
-pub line_lawful : (which : ℕ) (l : Line) (n : ℕ) (before after : List Line)
-    → line_fault which (row_from (fields l.bytes) l.ended n) ≡ fault (breaks (forms_of which) before l after)
-line_lawful which l n before after =
-    bytes_lawful which l.ended n l.bytes
-    ∙ sym (worse-none (worse (fault_if (not l.ended) 0) (fault_of (line_tests (forms_of which) l.bytes))))
+pub line_lawful : (kind : TextKind) (l : Line) (n : ℕ) (before after : List Line)
+    → line_fault kind (row_from (fields l.bytes) l.ended n) ≡ fault (breaks (forms_of kind) before l after)
+line_lawful kind l n before after =
+    bytes_lawful kind l.ended n l.bytes
+    ∙ sym (worse-none (worse (fault_if (not l.ended) 0) (fault_of (line_tests (forms_of kind) l.bytes))))

@@ -1,7 +1,6 @@
-pub mod Worse
+pub mod Faults
 pub mod Rises
 pub mod Letters
-pub mod Judged
 pub mod Lawful
 pub mod Readable
 pub mod Breaking

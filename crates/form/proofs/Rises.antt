@@ -3,19 +3,18 @@ use Prim.Native.Nat.{ℕ, zero, suc, ◌+◌, ◌*◌, ◌-◌, ◌≤◌, ◌<�
 use mathlib.Core.Path.{◌≡◌, refl, sym, ap, ◌∙◌}
 use mathlib.Core.Bool.{not}
 use mathlib.Core.List.{List, [], ◌∷◌}
-use mathlib.Core.Option.{Option, none, some}
+use Rattle.std.specs.Prelude.{Option, None, Some}
 use native.Mathlib.Omega.{arith}
 use lib.Dec.{ltb}
 use lib.ListN.{length, get_or, take, drop, length-take, length-drop}
 use lib.Seq.{drop-cons, drop-drop, get_or-drop, get_or-take}
 use borrow.Author.Tests.{lt-ltb, le-ltb}
 use Rattle.rules.specs.Text.{pairs}
-use Rattle.rules.specs.Search.{worse, fault_if, fault_of, as_fault}
+use Rattle.rules.specs.Search.{worse, fault_if, fault_of}
 use Rattle.rules.specs.Forms.{rising, rising_pairs}
-use Rattle.rules.specs.declared.Fault.TheVariants.{Fine, Field}
 use Rattle.text.proofs.Tools.{by_order}
 use Rattle.form.specs.Form.{pairs_fault}
-use Rattle.form.proofs.Worse.{wins, from_less, rising-from}
+use Rattle.form.proofs.Faults.{wins, from_less, rising-from}
 
 -- the fault of the pairs from i on, where the argument of the one before is a and n pairs are said to be there
 unfoldable pub rest_from : ℕ → ℕ → ℕ → List ℕ → Option ℕ
@@ -25,16 +24,16 @@ unfoldable pub rises_left : ℕ → List ℕ → ℕ → Option ℕ
 rises_left count nums i = rest_from i (get_or nums (2 + 2 * i) 0) (get_or nums 3 0 - i) (drop (4 + 2 * i) (take count nums))
 
 module _ (i a n : ℕ) where
-  rest-none : (ns : List ℕ) → length ns ≤ 1 → rest_from i a n ns ≡ none
+  rest-none : (ns : List ℕ) → length ns ≤ 1 → rest_from i a n ns ≡ None
   unfolding rest_from
   rest-none [] h = go n
     where
-      go : (m : ℕ) → fault_of (rising (6 + 2 * i) a (pairs m [])) ≡ none
+      go : (m : ℕ) → fault_of (rising (6 + 2 * i) a (pairs m [])) ≡ None
       go zero = refl
       go (suc m) = refl
   rest-none (x ∷ []) h = go n
     where
-      go : (m : ℕ) → fault_of (rising (6 + 2 * i) a (pairs m (x ∷ []))) ≡ none
+      go : (m : ℕ) → fault_of (rising (6 + 2 * i) a (pairs m (x ∷ []))) ≡ None
       go zero = refl
       go (suc m) = refl
   rest-none (x ∷ y ∷ ns) h = absurd (omega arith)
@@ -46,7 +45,7 @@ module _ (i a n : ℕ) where
       let e : 2 + (6 + 2 * i) ≡ 6 + 2 * (i + 1) = omega arith in
       ap (λ (f : ℕ). worse (fault_if (not (ltb a x)) (6 + 2 * i)) (fault_of (rising f x (pairs n ns)))) e
 
-  rest_from_lem : (x : ℕ) (ns : List ℕ) → worse (some (6 + 2 * i)) (rest_from (i + 1) x n ns) ≡ some (6 + 2 * i)
+  rest_from_lem : (x : ℕ) (ns : List ℕ) → worse (Some (6 + 2 * i)) (rest_from (i + 1) x n ns) ≡ Some (6 + 2 * i)
   unfolding rest_from
   rest_from_lem x ns =
       let later = fault_of (rising (6 + 2 * (i + 1)) x (pairs n ns)) in
@@ -54,13 +53,13 @@ module _ (i a n : ℕ) where
       (from_less (6 + 2 * i) (6 + 2 * (i + 1)) later (omega arith) (rising-from (6 + 2 * (i + 1)) x (pairs n ns)))
 
 module _ (count : ℕ) (nums : List ℕ) (i : ℕ) where
-  pub rises-done : get_or nums 3 0 ≤ i → rises_left count nums i ≡ none
+  pub rises-done : get_or nums 3 0 ≤ i → rises_left count nums i ≡ None
   unfolding rises_left rest_from
   rises-done h =
       let e : get_or nums 3 0 - i ≡ 0 = omega arith in
       ap (λ (m : ℕ). fault_of (rising (6 + 2 * i) (get_or nums (2 + 2 * i) 0) (pairs m (drop (4 + 2 * i) (take count nums))))) e
 
-  pub rises-short : count < 6 + 2 * i → rises_left count nums i ≡ none
+  pub rises-short : count < 6 + 2 * i → rises_left count nums i ≡ None
   unfolding rises_left
   rises-short h =
       rest-none i (get_or nums (2 + 2 * i) 0) (get_or nums 3 0 - i) (drop (4 + 2 * i) (take count nums))
@@ -94,7 +93,7 @@ module _ (count : ℕ) (nums : List ℕ) (i : ℕ) where
         ∙ rest_more i last left next (get_or nums (suc (4 + 2 * i)) 0) after
         ∙ ap (λ (m : ℕ). worse (fault_if (not (ltb last next)) (6 + 2 * i)) (rest_from (i + 1) (get_or nums m 0) left after)) f
 
-    pub rises-stop : get_or nums (4 + 2 * i) 0 ≤ get_or nums (2 + 2 * i) 0 → rises_left count nums i ≡ some (6 + 2 * i)
+    pub rises-stop : get_or nums (4 + 2 * i) 0 ≤ get_or nums (2 + 2 * i) 0 → rises_left count nums i ≡ Some (6 + 2 * i)
     unfolding rises_left
     rises-stop l =
         rises-turn
@@ -110,7 +109,7 @@ abbrev pub PairsLeft : ℕ → List ℕ → ℕ → Type 0
 PairsLeft count nums i = pairs_fault count nums ≡ rises_left count nums i
 
 module _ (count : ℕ) (nums : List ℕ) where
-  pub many : 4 < get_or nums 3 0 → Field 5 ≡ as_fault (pairs_fault count nums)
+  pub many : 4 < get_or nums 3 0 → Some 5 ≡ pairs_fault count nums
   unfolding pairs_fault
   many h = simp (lt-ltb 4 (get_or nums 3 0) h)
 
@@ -138,17 +137,17 @@ module _ (count : ℕ) (nums : List ℕ) where
   pairs_start h = simp (le-ltb 4 (get_or nums 3 0) h) (begin (get_or nums 3 0) (drop 4 (take count nums)) ∙ start)
 
   module _ (i : ℕ) (k : PairsLeft count nums i) where
-    pub pairs-done : get_or nums 3 0 ≤ i → Fine ≡ as_fault (pairs_fault count nums)
-    pairs-done h = sym (ap as_fault (k ∙ rises-done count nums i h))
+    pub pairs-done : get_or nums 3 0 ≤ i → None ≡ pairs_fault count nums
+    pairs-done h = sym (k ∙ rises-done count nums i h)
 
-    pub pairs-short : count < 6 + 2 * i → Fine ≡ as_fault (pairs_fault count nums)
-    pairs-short h = sym (ap as_fault (k ∙ rises-short count nums i h))
+    pub pairs-short : count < 6 + 2 * i → None ≡ pairs_fault count nums
+    pairs-short h = sym (k ∙ rises-short count nums i h)
 
     module _ (h : i < get_or nums 3 0) (few : get_or nums 3 0 ≤ 4) (long : length nums ≡ 12) (m : 6 + 2 * i ≤ count) where
-      pub pairs-stop : get_or nums (4 + 2 * i) 0 ≤ get_or nums (2 + 2 * i) 0 → Field (6 + 2 * i) ≡ as_fault (pairs_fault count nums)
-      pairs-stop l = sym (ap as_fault (k ∙ rises-stop count nums i h few long m l))
+      pub pairs-stop : get_or nums (4 + 2 * i) 0 ≤ get_or nums (2 + 2 * i) 0 → Some (6 + 2 * i) ≡ pairs_fault count nums
+      pairs-stop l = sym (k ∙ rises-stop count nums i h few long m l)
 
       pub pairs-on : get_or nums (2 + 2 * i) 0 < get_or nums (4 + 2 * i) 0 → PairsLeft count nums (i + 1)
       pairs-on l = k ∙ rises-on count nums i h few long m l
 
-pub ruleset pairs-laws = (many, pairs_start, pairs-done, pairs-short, pairs-stop, pairs-on)
+pub ruleset pairs_laws = (many, pairs_start, pairs-done, pairs-short, pairs-stop, pairs-on)

@@ -1,197 +1,170 @@
 // The text form: checks 10, 20 and 30.
 #![tactic(auto)]
 
-ghost use Rattle.std.specs.Prelude.{◌≡◌, ◌+◌, ◌*◌, ◌≤◌, ◌<◌, length};
+ghost use Rattle.std.specs.Prelude.{◌≡◌, ◌≤◌, length};
 ghost use Rattle.rules.specs.Text.{lines};
-ghost use Rattle.rules.specs.Search.{as_fault, spot_or, first_line};
+ghost use Rattle.rules.specs.Search.{worse, first_line};
 ghost use Rattle.rules.specs.Forms.{breaks};
-ghost use Rattle.form.specs.Form.{forms_of, count_fault, or_count, pairs_fault, labelled_fault, valued_fault};
+ghost use Rattle.rules.specs.Kinds.{forms_of};
+ghost use Rattle.form.specs.Form.{count_fault, pairs_fault, labelled_fault, valued_fault};
 ghost use Rattle.form.specs.Form.{schema_fault, graph_fault, query_fault, form_fault, line_fault};
 
-use rules::{Fault, Spot};
+use rules::{Spot, TextKind};
+use text::Row;
 
-// An n above 4, or the first argument number that is not above the one before it.
-fn pairs_fault(count: usize, nums: [u32; 12]) -> Fault
-    requires { length nums ≡ 12 }
-    ensures { result ≡ as_fault (pairs_fault count nums) }
+// Of two faults the worse: the smaller field, and each field before 0, the whole line.
+#[tactic(auto, using(crate::proofs::Faults::worse_laws))]
+fn worse(a: Option<u32>, b: Option<u32>) -> Option<u32>
+    ensures { result ≡ worse a b }
 {
-    let n = nums[3] as usize;
-    if 4 < n {
-        return Fault::Field(5);
+    let Some(f) = a else {
+        return b;
+    };
+    let Some(g) = b else {
+        return a;
+    };
+    if f == 0 || g == 0 {
+        return Some(f.max(g));
     }
-    let mut i: usize = 1;
-    while i < n {
-        if count < 6 + 2 * i {
-            return Fault::Fine;
-        }
-        if nums[4 + 2 * i] <= nums[2 + 2 * i] {
-            return Fault::Field((6 + 2 * i) as u32);
-        }
-        i += 1;
-    }
-    Fault::Fine
+    Some(f.min(g))
 }
 
-// A fault in a field of the line, or else the whole line's where its numbers are too few or too many.
-fn or_count(f: Fault, wrong: bool) -> Fault
-    ensures { result ≡ or_count f wrong }
+// An n above 4, or the first argument number that is not above the one before it.
+#[tactic(auto, using(crate::proofs::Rises::pairs_laws))]
+fn pairs_fault(r: &Row) -> Option<u32>
+    ensures { result ≡ pairs_fault r.now.count r.now.nums }
 {
-    match f {
-        Fault::Field(g) => Fault::Field(g),
-        Fault::Fine => {
-            if wrong {
-                return Fault::Field(0);
-            }
-            Fault::Fine
+    let n = r.nums[3] as usize;
+    if 4 < n {
+        return Some(5);
+    }
+    for i in 1..n {
+        if r.count < 6 + 2 * i {
+            return None;
+        }
+        if r.nums[4 + 2 * i] <= r.nums[2 + 2 * i] {
+            return Some((6 + 2 * i) as u32);
         }
     }
+    None
 }
 
 // The form of a record that has n numbers.
-fn counted(n: usize, count: usize) -> Fault
-    ensures { result ≡ as_fault (count_fault n count) }
+#[tactic(auto, using(crate::proofs::Faults::flagged), unfolding(crate::specs::Form::count_fault))]
+fn counted(n: usize, count: usize) -> Option<u32>
+    ensures { result ≡ count_fault n count }
 {
-    if count == n {
-        return Fault::Fine;
-    }
-    Fault::Field(0)
+    (count != n).then_some(0)
 }
 
 // The form of an edge, or of a field of the query.
-fn labelled_fault(count: usize, nums: [u32; 12]) -> Fault
-    requires { length nums ≡ 12 }
-    ensures { result ≡ as_fault (labelled_fault count nums) }
+#[tactic(auto, using(crate::proofs::Letters::front_laws), unfolding(crate::specs::Form::labelled_fault))]
+fn labelled_fault(r: &Row) -> Option<u32>
+    ensures { result ≡ labelled_fault r.now.count r.now.nums }
 {
-    or_count(
-        pairs_fault(count, nums),
-        count != 4 + 2 * (nums[3] as usize),
+    worse(
+        pairs_fault(r),
+        counted(4 + 2 * (r.nums[3] as usize), r.count),
     )
 }
 
 // The form of a property.
-fn valued_fault(count: usize, nums: [u32; 12]) -> Fault
-    requires { length nums ≡ 12 }
-    ensures { result ≡ as_fault (valued_fault count nums) }
+#[tactic(auto, using(crate::proofs::Letters::valued_laws))]
+fn valued_fault(r: &Row) -> Option<u32>
+    ensures { result ≡ valued_fault r.now.count r.now.nums }
 {
-    if 1 < nums[2] {
-        return Fault::Field(4);
+    let mark = (1 < r.nums[2]).then_some(4);
+    let front = 4 + 2 * (r.nums[3] as usize);
+    if r.nums[2] == 0 {
+        return worse(mark, worse(pairs_fault(r), counted(front + 1, r.count)));
     }
-    let front = 4 + 2 * (nums[3] as usize);
-    if nums[2] == 0 {
-        return or_count(pairs_fault(count, nums), count != front + 1);
-    }
-    or_count(pairs_fault(count, nums), count < front)
+    worse(mark, worse(pairs_fault(r), (r.count < front).then_some(0)))
 }
 
 // The form of a schema's record.
-fn schema_fault(letter: u8, count: usize, nums: [u32; 12]) -> Fault
-    requires { length nums ≡ 12 }
-    ensures { result ≡ as_fault (schema_fault letter count nums) }
+#[tactic(auto, using(crate::proofs::Letters::schema_laws))]
+fn schema_fault(r: &Row) -> Option<u32>
+    ensures { result ≡ schema_fault r.now.letter r.now.count r.now.nums }
 {
-    match letter {
-        b'O' | b'I' | b'U' => counted(0, count),
-        b'A' | b'Q' => counted(1, count),
-        b'S' | b'H' | b'G' | b'M' => counted(2, count),
-        b'F' => {
-            if 1 < nums[1] {
-                return Fault::Field(3);
-            }
-            counted(2, count)
-        }
-        _ => Fault::Field(1),
+    match r.letter {
+        b'O' | b'I' | b'U' => counted(0, r.count),
+        b'A' | b'Q' => counted(1, r.count),
+        b'S' | b'H' | b'G' | b'M' => counted(2, r.count),
+        b'F' => worse((1 < r.nums[1]).then_some(3), counted(2, r.count)),
+        _ => Some(1),
     }
 }
 
 // The form of a graph's record.
-fn graph_fault(letter: u8, count: usize, nums: [u32; 12]) -> Fault
-    requires { length nums ≡ 12 }
-    ensures { result ≡ as_fault (graph_fault letter count nums) }
+#[tactic(auto, using(crate::proofs::Letters::graph_laws))]
+fn graph_fault(r: &Row) -> Option<u32>
+    ensures { result ≡ graph_fault r.now.letter r.now.count r.now.nums }
 {
-    if letter == b'N' {
-        return counted(1, count);
+    match r.letter {
+        b'N' => counted(1, r.count),
+        b'E' => labelled_fault(r),
+        b'P' => valued_fault(r),
+        _ => Some(1),
     }
-    if letter == b'E' {
-        return labelled_fault(count, nums);
-    }
-    if letter == b'P' {
-        return valued_fault(count, nums);
-    }
-    Fault::Field(1)
 }
 
 // The form of a query's record.
-fn query_fault(letter: u8, count: usize, nums: [u32; 12]) -> Fault
-    requires { length nums ≡ 12 }
-    ensures { result ≡ as_fault (query_fault letter count nums) }
+#[tactic(auto, using(crate::proofs::Letters::query_laws))]
+fn query_fault(r: &Row) -> Option<u32>
+    ensures { result ≡ query_fault r.now.letter r.now.count r.now.nums }
 {
-    if letter == b'F' {
-        return labelled_fault(count, nums);
+    match r.letter {
+        b'F' => labelled_fault(r),
+        b'T' => counted(2, r.count),
+        _ => Some(1),
     }
-    if letter == b'T' {
-        return counted(2, count);
-    }
-    Fault::Field(1)
 }
 
-// The form of a record of the text whose first check has this number.
-fn form_fault(which: u32, letter: u8, count: usize, nums: [u32; 12]) -> Fault
-    requires { length nums ≡ 12 }
-    ensures { result ≡ as_fault (form_fault which letter count nums) }
+// The form of a record of a text.
+#[tactic(auto, unfolding(crate::specs::Form::form_fault))]
+fn form_fault(kind: TextKind, r: &Row) -> Option<u32>
+    ensures { result ≡ form_fault kind r.now.letter r.now.count r.now.nums }
 {
-    if which == 10 {
-        return schema_fault(letter, count, nums);
+    match kind {
+        TextKind::Schema => schema_fault(r),
+        TextKind::Graph => graph_fault(r),
+        TextKind::Query => query_fault(r),
     }
-    if which == 20 {
-        return graph_fault(letter, count, nums);
-    }
-    query_fault(letter, count, nums)
 }
 
 // What the text form says of a line that was read.
-fn line_fault(which: u32, r: text::Row) -> Fault
-    requires nums_len { length r.nums ≡ 12 }
-    requires bad_bound { r.bad ≤ 100000 }
-    ensures { result ≡ as_fault (line_fault which r) }
+#[tactic(auto, using(crate::proofs::Faults::line_laws))]
+fn line_fault(kind: TextKind, r: &Row) -> Option<u32>
+    requires { r.now.bad ≤ 100000 }
+    ensures { result ≡ line_fault kind r.now }
 {
-    if r.letter == 0 {
-        return Fault::Field(r.bad as u32);
-    }
-    let nums = r.nums;
-    let f = form_fault(which, r.letter, r.count, nums);
     let bad = r.bad as u32;
-    if let Fault::Field(g) = f {
-        if g == 0 {
-            return Fault::Field(bad);
-        }
-        if bad == 0 {
-            return Fault::Field(g);
-        }
-        if bad < g {
-            return Fault::Field(bad);
-        }
-        return Fault::Field(g);
+    if r.letter == 0 {
+        return Some(bad);
     }
-    if 0 < bad {
-        return Fault::Field(bad);
-    }
-    or_count(Fault::Fine, !r.ended)
+    let unended = (!r.ended).then_some(0);
+    worse(
+        unended,
+        worse((bad != 0).then_some(bad), form_fault(kind, r)),
+    )
 }
 
-// The first line that breaks the text form, with the field at fault; line 0 where none does.
-pub fn first_broken(which: u32, s: &[u8]) -> Spot
+// The first line that breaks the text form, with the field at fault.
+#[tactic(auto, using(crate::proofs::Breaking::broken_laws))]
+pub fn first_broken(kind: TextKind, s: &[u8]) -> Option<Spot>
     requires { length s.now ≤ 65535 }
-    ensures { result ≡ spot_or (first_line (breaks (forms_of which)) (lines s.now)) }
+    ensures { result ≡ first_line (breaks (forms_of kind)) (lines s.now) }
 {
     let mut at: usize = 0;
     let mut line: u32 = 1;
+    // the reader says where the next line starts: nothing is counted
     while at < s.len() {
         let r = text::read_row(s, at);
-        let f = line_fault(which, r);
-        if let Fault::Field(field) = f {
-            return Spot { line, field };
+        if let Some(field) = line_fault(kind, &r) {
+            return Some(Spot { line, field });
         }
         at = r.next;
         line += 1;
     }
-    Spot { line: 0, field: 0 }
+    None // no line breaks the form
 }

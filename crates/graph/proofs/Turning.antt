@@ -5,14 +5,13 @@ use native.Mathlib.Numerals.{unary_clauses}
 use mathlib.Core.Path.{◌≡◌, sym, ap, ◌∙◌}
 use mathlib.Core.Bool.{Bool, true, false, not}
 use mathlib.Core.List.{List}
-use mathlib.Core.Option.{Option, none, some}
+use Rattle.std.specs.Prelude.{Option, None, Some}
 use lib.ListN.{length, get_or, take, drop}
 use lib.Seq.{drop-cons}
 use borrow.Author.Tests.{not-true, not-false}
 use Rattle.rules.specs.Text.{Pair, pairs, arg_no}
-use Rattle.rules.specs.Search.{test_each, worse, fault_if, fault_of, as_fault}
+use Rattle.rules.specs.Search.{test_each, worse, fault_if, fault_of}
 use Rattle.rules.specs.Schema.{declared_arg, takes_arg, arg_type, in_range}
-use Rattle.rules.specs.declared.Fault.TheVariants.{Fine, Field}
 use Rattle.rules.specs.declared.FieldNo.{FieldNo}
 use Rattle.rules.specs.declared.TypeNo.{TypeNo}
 use Rattle.tables.specs.Read.{wide_at, values_at, schema_at}
@@ -35,7 +34,7 @@ module _ (bad : Pair → Bool) (f : ℕ) (nums : List ℕ) where
   unfolding rest
   rest-behind i = behind-each bad 2 (f + 2 * i) (pairs (get_or nums 3 0 - i) (drop (4 + 2 * i) nums))
 
-  rest_ended : (i : ℕ) → get_or nums 3 0 ≤ i → rest i ≡ none
+  rest_ended : (i : ℕ) → get_or nums 3 0 ≤ i → rest i ≡ None
   unfolding rest
   rest_ended i h = let z : get_or nums 3 0 - i ≡ 0 = omega arith in rw z
 
@@ -66,12 +65,12 @@ declared_all a nums = rest_all (stray a) 6 nums
 
 module _ (a nums : List ℕ) (i : ℕ) where
   pub declared_broken : (b : Bool) → DeclaredLeft a nums i → i < get_or nums 3 0 → get_or nums 3 0 ≤ 4 → length nums ≡ 12
-      → b ≡ declared_arg (schema_at a) (arg_no (get_or nums (4 + 2 * i) 0)) → b ≡ false → Field (6 + 2 * i) ≡ as_fault (undeclared a nums)
+      → b ≡ declared_arg (schema_at a) (arg_no (get_or nums (4 + 2 * i) 0)) → b ≡ false → Some (6 + 2 * i) ≡ undeclared a nums
   unfolding DeclaredLeft
   declared_broken b k h w l e t =
       let names = rest (stray a) 6 nums (i + 1) in
       let z : declared_arg (schema_at a) (arg_no (get_or nums (4 + 2 * i) 0)) ≡ false = sym e ∙ t in
-      let q : undeclared a nums ≡ some (6 + 2 * i) =
+      let q : undeclared a nums ≡ Some (6 + 2 * i) =
       k ∙ rest-on (stray a) 6 nums i h w l
       ∙ rw z (earlier-decides (6 + 2 * i) (6 + 2 * (i + 1)) names (omega arith) (omega arith) (rest-behind (stray a) 6 nums (i + 1))) in
       rw q
@@ -83,7 +82,7 @@ module _ (a nums : List ℕ) (i : ℕ) where
       let z : declared_arg (schema_at a) (arg_no (get_or nums (4 + 2 * i) 0)) ≡ true = sym e ∙ t in
       k ∙ rest-on (stray a) 6 nums i h w l ∙ rw z
 
-  pub declared_ended : DeclaredLeft a nums i → get_or nums 3 0 ≤ i → Fine ≡ as_fault (undeclared a nums)
+  pub declared_ended : DeclaredLeft a nums i → get_or nums 3 0 ≤ i → None ≡ undeclared a nums
   unfolding DeclaredLeft
   declared_ended k h = rw (k, rest_ended (stray a) 6 nums i h)
 
@@ -116,17 +115,17 @@ module _ (a : List ℕ) (f : FieldNo) (nums : List ℕ) (i : ℕ) where
   later-values = behind-later (7 + 2 * i) (7 + 2 * (i + 1)) (rest (beyond a) 7 nums (i + 1)) (omega arith) (rest-behind (beyond a) 7 nums (i + 1))
 
   pub taken-foreign : (b : Bool) → TakenLeft a f nums i → i < get_or nums 3 0 → get_or nums 3 0 ≤ 4 → length nums ≡ 12
-      → b ≡ takes_arg (schema_at a) f (arg_no (get_or nums (4 + 2 * i) 0)) → b ≡ false → Field (6 + 2 * i) ≡ as_fault (untaken a f nums)
+      → b ≡ takes_arg (schema_at a) f (arg_no (get_or nums (4 + 2 * i) 0)) → b ≡ false → Some (6 + 2 * i) ≡ untaken a f nums
   unfolding TakenLeft
   taken-foreign b k h w l e t =
       let z : takes_arg (schema_at a) f (arg_no (get_or nums (4 + 2 * i) 0)) ≡ false = sym e ∙ t in
       let names = rest (foreign a f) 6 nums (i + 1) in
       let values = rest (beyond a) 7 nums i in
-      let first : worse (some (6 + 2 * i)) names ≡ some (6 + 2 * i) =
+      let first : worse (Some (6 + 2 * i)) names ≡ Some (6 + 2 * i) =
       earlier-decides (6 + 2 * i) (7 + 2 * i) names (omega arith) (omega arith) later in
-      let second : worse (some (6 + 2 * i)) values ≡ some (6 + 2 * i) =
+      let second : worse (Some (6 + 2 * i)) values ≡ Some (6 + 2 * i) =
       earlier-decides (6 + 2 * i) (7 + 2 * i) values (omega arith) (omega arith) (rest-behind (beyond a) 7 nums i) in
-      let q : untaken a f nums ≡ some (6 + 2 * i) =
+      let q : untaken a f nums ≡ Some (6 + 2 * i) =
       k ∙ rw (rest-on (foreign a f) 6 nums i h w l, z) (ap (λ o. worse o values) first ∙ second) in
       rw q
 
@@ -140,11 +139,11 @@ module _ (a : List ℕ) (f : FieldNo) (nums : List ℕ) (i : ℕ) where
     within : in_range (schema_at a) (arg_type (schema_at a) (arg_no (get_or nums (4 + 2 * i) 0))) (get_or nums (5 + 2 * i) 0) ≡ d
     within = ap (λ x. in_range (schema_at a) x (get_or nums (5 + 2 * i) 0)) (sym o) ∙ sym g
 
-    pub taken-beyond : d ≡ false → Field (7 + 2 * i) ≡ as_fault (untaken a f nums)
+    pub taken-beyond : d ≡ false → Some (7 + 2 * i) ≡ untaken a f nums
     taken-beyond r =
         let names = rest (foreign a f) 6 nums (i + 1) in
         let values = rest (beyond a) 7 nums (i + 1) in
-        let q : untaken a f nums ≡ some (7 + 2 * i) =
+        let q : untaken a f nums ≡ Some (7 + 2 * i) =
         taken_next k h w l
         ∙ simp (takes, within, r)
         (ap (λ x. worse names x) (first-decides (7 + 2 * i) values (omega arith) later-values)
@@ -155,7 +154,7 @@ module _ (a : List ℕ) (f : FieldNo) (nums : List ℕ) (i : ℕ) where
     unfolding TakenLeft
     taken-on r = taken_next k h w l ∙ simp (takes, within, r)
 
-  pub taken-ended : TakenLeft a f nums i → get_or nums 3 0 ≤ i → Fine ≡ as_fault (untaken a f nums)
+  pub taken-ended : TakenLeft a f nums i → get_or nums 3 0 ≤ i → None ≡ untaken a f nums
   unfolding TakenLeft
   taken-ended k h = rw (k, rest_ended (foreign a f) 6 nums i h, rest_ended (beyond a) 7 nums i h)
 
@@ -190,13 +189,13 @@ module _ (a : List ℕ) (t : TypeNo) (v xs : List ℕ) (from start front all i :
       k ∙ rw (z, y, x, drop-cons v (start + (i - front)) 0 l)
 
   pub values-broken : (b : Bool) → ValuesLeft a t v xs from start front all i → i < all → front ≤ i → start + (all - front) ≤ length v → 1 ≤ from
-      → b ≡ in_range (schema_at a) t (get_or v (start + (i - front)) 0) → b ≡ false → Field (from + (i - front)) ≡ as_fault (outside a t from xs)
+      → b ≡ in_range (schema_at a) t (get_or v (start + (i - front)) 0) → b ≡ false → Some (from + (i - front)) ≡ outside a t from xs
   unfolding outside
   values-broken b k h o w u e r =
       let z : in_range (schema_at a) t (get_or v (start + (i - front)) 0) ≡ false = sym e ∙ r in
       let next = from + (i + 1 - front) in
       let left : List ℕ = take (all - (i + 1)) (drop (start + (i + 1 - front)) v) in
-      let q : outside a t from xs ≡ some (from + (i - front)) =
+      let q : outside a t from xs ≡ Some (from + (i - front)) =
       values-next k h o w
       ∙ simp z
       (earlier-decides (from + (i - front)) next (outside a t next left) (omega arith) (omega arith)
@@ -210,7 +209,7 @@ module _ (a : List ℕ) (t : TypeNo) (v xs : List ℕ) (from start front all i :
       let z : in_range (schema_at a) t (get_or v (start + (i - front)) 0) ≡ true = sym e ∙ r in
       values-next k h o w ∙ simp z
 
-  pub values-ended : ValuesLeft a t v xs from start front all i → all ≤ i → Fine ≡ as_fault (outside a t from xs)
+  pub values-ended : ValuesLeft a t v xs from start front all i → all ≤ i → None ≡ outside a t from xs
   unfolding ValuesLeft outside
   values-ended k h = let z : all - i ≡ 0 = omega arith in rw (k, z)
 

@@ -1,6 +1,5 @@
 -- What checks 22 to 26 say of one row, by the schema and the nodes that areas hold. Assumes nothing.
-use Rattle.std.specs.Prelude.{ℕ, ◌+◌, ◌*◌, List, [], ◌∷◌, ◌++◌, Bool, ◌&&◌, not, drop, get_or, eqb}
-use Rattle.std.proofs.Math.Option.{Option}
+use Rattle.std.specs.Prelude.{ℕ, ◌+◌, ◌*◌, List, [], ◌∷◌, ◌++◌, Bool, ◌&&◌, not, drop, get_or, eqb, Option}
 use Rattle.rules.specs.Text.{Row, pairs, field_no, type_no}
 use Rattle.rules.specs.Search.{◌#◌, test_each, fault_of, fault}
 use Rattle.rules.specs.Schema.{is_scalar, in_range, declared_arg, takes_arg, arg_type}
@@ -8,7 +7,7 @@ use Rattle.rules.specs.Graph.{Label, nothing, Graph, check22, check23, check24, 
 use Rattle.rules.specs.declared.FieldNo.{FieldNo}
 use Rattle.rules.specs.declared.TypeNo.{TypeNo}
 use Rattle.tables.specs.Read.{cell, narrow_at, schema_at, wide_at, starts_at}
-use Rattle.graph.specs.declared.Named.{Named}
+use Rattle.graph.specs.declared.label.Named.{Named}
 
 -- the nodes alone, which is all that these checks ask of a graph
 unfoldable pub nodes_at : List ℕ → Graph

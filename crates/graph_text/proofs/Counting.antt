@@ -7,7 +7,6 @@ use mathlib.Core.Bool.{Bool, true, false}
 use mathlib.Core.List.{List, ◌∷◌}
 use lib.Dec.{eqb}
 use lib.ListN.{length}
-use borrow.Author.Tests.{eq-eqb, ne_eqb}
 use Rattle.rules.specs.Lists.{those, keep_if, count_up}
 use Rattle.rules.specs.Graph.{nodes_of}
 use Rattle.rules.specs.declared.TypeNo.{TypeNo}
@@ -46,16 +45,16 @@ module _ (g : List ℕ) (t : TypeNo) where
           ∙ ap (λ (l : List ℕ). found + length (those (of_type g t) l)) (from-here u (cell g 0) h)
           ∙ ap (λ (x : Bool). found + length (keep_if x u rest)) q
 
-      pub passed_hit : k.0 ≡ t.0 → Passed g t (found + 1) (u + 1)
+      pub passed_hit : eqb k.0 t.0 ≡ true → Passed g t (found + 1) (u + 1)
       unfolding Passed of_type
       passed_hit q =
-          let s : of_type g t u ≡ true = eq-eqb _ _ (ap (λ (x : TypeNo). x.0) (sym e) ∙ q) in
+          let s : of_type g t u ≡ true = ap (λ (x : TypeNo). eqb x.0 t.0) (sym e) ∙ q in
           rw (add-one u) (omega (arith, one_more true s))
 
-      pub passed_miss : (k.0 ≡ t.0 → ⊥) → Passed g t found (u + 1)
+      pub passed_miss : eqb k.0 t.0 ≡ false → Passed g t found (u + 1)
       unfolding Passed of_type
       passed_miss q =
-          let s : of_type g t u ≡ false = ne_eqb _ _ (λ z. q (ap (λ (x : TypeNo). x.0) e ∙ z)) in
+          let s : of_type g t u ≡ false = ap (λ (x : TypeNo). eqb x.0 t.0) (sym e) ∙ q in
           rw (add-one u) (one_more false s)
 
   pub passed-all : (found u : ℕ) → Passed g t found u → cell g 0 ≤ u → found ≡ length (nodes_of (nodes_at g) t)

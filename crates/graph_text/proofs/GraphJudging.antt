@@ -3,7 +3,7 @@ use Prim.Native.Nat.{ℕ, ◌≤◌}
 use native.Mathlib.Omega.{arith}
 use mathlib.Core.Path.{◌≡◌, refl, sym, ap, ap₂, ◌∙◌, subst}
 use mathlib.Core.List.{List, [], ◌∷◌, ◌++◌}
-use mathlib.Core.Option.{none}
+use Rattle.std.specs.Prelude.{None, Err}
 use lib.ListN.{length}
 use borrow.Author.Tests.{eq-eqb, ne_eqb}
 use Rattle.rules.specs.Text.{rows, E, P}
@@ -27,18 +27,16 @@ use Rattle.masks.specs.Masks.{Masked}
 use Rattle.schema.specs.Held.{SchemaHeld}
 use Rattle.graph.specs.Held.{NodesHeld}
 use Rattle.graph.specs.Faults.{nodes_at}
-use Rattle.form.specs.Form.{forms_of}
+use Rattle.rules.specs.Kinds.{forms_of, maxima_of}
+use Rattle.rules.specs.declared.TextKind.TheVariants.{Graph as TextGraph}
+use Rattle.rules.specs.declared.Refusal.{Refusal}
 use Rattle.search.specs.Search.{areas, graph_in, check_by, GraphReady, Indexed}
 use Rattle.search.proofs.Calls.{nodes_held, value-length}
-use Rattle.checks.specs.declared.Verdict.{Verdict}
-use Rattle.checks.specs.Verdict.{refused_by, judged, Opens, maxima_of, form_checks}
-use Rattle.checks.proofs.Judging.{judged-at, judged-past, judged-none, Passes, passed, front, behind, Left}
+use Rattle.checks.specs.Verdict.{Verdict, refused_by, accepted, judged, form_checks}
+use Rattle.checks.proofs.Judging.{refusal, judged-at, judged-past, judged-none, Passes, passed, front, behind, Left}
 use Rattle.checks.proofs.Opening.{Opened, opening-refused, opening_past}
 use Rattle.checks.proofs.Fitting.{graph-fits, graph-few}
 use Rattle.graph_text.specs.GraphVerdict.{alone_checks, joint_checks, GraphJudged}
-
-abbrev number : Verdict → ℕ
-number v = v.number
 
 -- ---- 22 to 27, of a graph that is laid out
 
@@ -104,39 +102,35 @@ module _ (s a g p v : List ℕ) (ready : GraphReady (rows s) (areas a g p v)) wh
         ∙ ap (λ (o : TypeNo). length (nodes_of (nodes_at g) o)) e
         ∙ ap (λ (o : Graph). length (nodes_of o (query_type sch))) view
 
-    module _ (left : JointLeft s a g p v []) {w : Verdict} where
-      pub at_27 : (n ≡ 1 → ⊥) → w ≡ refused_by 27 (spot 0 0) → w ≡ judged (joint_checks sch s)
+    module _ (left : JointLeft s a g p v []) where
+      pub at_27 : {w : Verdict} → (n ≡ 1 → ⊥) → w ≡ refused_by 27 (spot 0 0) → w ≡ judged (joint_checks sch s)
       at_27 h f =
           let offends = ne_eqb (length (nodes_of (graph_of (rows s)) (query_type sch))) 1 (λ q. h (queries ∙ q)) in
           f ∙ sym (left.is ∙ judged-at 27 (check27 sch (graph_of (rows s))) [] (spot 0 0) (rw offends))
 
-      pub past_27 : n ≡ 1 → w ≡ refused_by 0 (spot 0 0) → w ≡ judged (joint_checks sch s)
-      past_27 h f =
+      pub past_27 : n ≡ 1 → accepted ≡ judged (joint_checks sch s)
+      past_27 h =
           let passes = eq-eqb (length (nodes_of (graph_of (rows s)) (query_type sch))) 1 (sym queries ∙ h) in
-          f ∙ sym (left.is ∙ judged-past 27 (check27 sch (graph_of (rows s))) [] (rw passes) ∙ judged-none)
+          sym (left.is ∙ judged-past 27 (check27 sch (graph_of (rows s))) [] (rw passes) ∙ judged-none)
 
 -- ---- 20 and 21, and the whole
 
-pub opens_20 : Opens 20
-unfolding Opens
-opens_20 = refl
-
-pub fits_21 : (s : List ℕ) → Opened 20 s → GraphFits (rows s)
+pub fits_21 : (s : List ℕ) → Opened TextGraph s → GraphFits (rows s)
 unfolding maxima_of
 fits_21 s o = graph-fits (rows s) o.few
 
-pub form_20 : (s : List ℕ) → Opened 20 s → text_form graph_forms s ≡ none
+pub form_20 : (s : List ℕ) → Opened TextGraph s → text_form graph_forms s ≡ None
 unfolding forms_of
 form_20 s o = o.formed
 
-pub refused : (t : Schema) (s g p v x : List ℕ) {b : Verdict} → b ≡ judged (form_checks 20 s) → (b.number ≡ 0 → ⊥)
-    → GraphJudged t s (length g) (length p) (length v) (length x) g p v x b
+pub refused : (t : Schema) (s g p v x : List ℕ) {b : Verdict} → b ≡ judged (form_checks TextGraph s) → {r : Refusal} → b ≡ Err r
+    → GraphJudged t s (length g) (length p) (length v) (length x) g p v x (Err r)
 unfolding forms_of form_checks maxima_of alone_checks joint_checks
 refused t s g p v x form h =
     record {
-      is = opening-refused 20 opens_20 s form (alone_checks t s ++ joint_checks t s) h;
+      is = sym h ∙ opening-refused TextGraph s form (alone_checks t s ++ joint_checks t s) h;
       long = (refl, refl, refl, refl);
-      held = λ z. absurd (h z);
+      held = λ z. absurd (refusal z);
     }
 
 -- The three areas, of the lengths n, m and k, laid out of the text s.
@@ -160,7 +154,7 @@ module _ {s g p v : List ℕ} {n m k : ℕ} (laid : Laid s g p v n m k) where
   v_long = ap length laid.values ∙ value-length k (rows s) laid.values_room laid.fits.values
 
   -- they can be searched
-  pub laid-ready : (a : List ℕ) → SchemaHeld a → Masked a → k ≤ 16384 → text_form graph_forms s ≡ none
+  pub laid-ready : (a : List ℕ) → SchemaHeld a → Masked a → k ≤ 16384 → text_form graph_forms s ≡ None
       → GraphReady (rows s) (areas a g p v)
   unfolding areas
   laid-ready a h m most f =
@@ -181,12 +175,12 @@ module _ {s g p v : List ℕ} {n m k : ℕ} (laid : Laid s g p v n m k) where
 
   -- the verdict on each row by itself
   module _ (t : Schema) {c : Verdict} (alone : c ≡ judged (alone_checks t s)) where
-    module _ (y : c.number ≡ 0) where
+    module _ (y : c ≡ accepted) where
       alone-passes : Each Passes (alone_checks t s)
       unfolding alone_checks
-      alone-passes = passed (alone_checks t s) (omega arith, (omega arith, (omega arith, tt))) (ap number (sym alone) ∙ y)
+      alone-passes = passed (alone_checks t s) (sym alone ∙ y)
 
-      passes_22 : first_line (check22 t (graph_of (rows s))) (rows s) ≡ none
+      passes_22 : first_line (check22 t (graph_of (rows s))) (rows s) ≡ None
       unfolding alone_checks
       passes_22 = alone-passes.0
 
@@ -216,24 +210,24 @@ module _ {s g p v : List ℕ} {n m k : ℕ} (laid : Laid s g p v n m k) where
             properties = index_properties g p x edges_indexable properties_indexable (omega arith) is;
           }
 
-    module _ {b : Verdict} (form : b ≡ judged (form_checks 20 s)) (z : b.number ≡ 0) where
+    module _ {b : Verdict} (form : b ≡ judged (form_checks TextGraph s)) (z : b ≡ accepted) where
       past : judged (graph_checks t s) ≡ judged (alone_checks t s ++ joint_checks t s)
       unfolding forms_of form_checks maxima_of alone_checks joint_checks
-      past = opening_past 20 opens_20 s form z (alone_checks t s ++ joint_checks t s)
+      past = opening_past TextGraph s form z (alone_checks t s ++ joint_checks t s)
 
-      pub alone-refused : (c.number ≡ 0 → ⊥) → (x : List ℕ) → GraphJudged t s n m k (length x) g p v x c
+      pub alone-refused : {r : Refusal} → c ≡ Err r → (x : List ℕ) → GraphJudged t s n m k (length x) g p v x (Err r)
       alone-refused h x =
           record {
-            is = alone ∙ sym (past ∙ front (alone_checks t s) (joint_checks t s) (λ y. h (ap number alone ∙ y)));
+            is = sym h ∙ alone ∙ sym (past ∙ front (alone_checks t s) (joint_checks t s) (λ y. refusal (sym h ∙ alone ∙ y)));
             long = (g_long, p_long, v_long, refl);
-            held = λ y. absurd (h y);
+            held = λ y. absurd (refusal y);
           }
 
       -- the whole verdict, from that on a row and the others
-      pub accepted : (y : c.number ≡ 0) (i : ℕ) (x : List ℕ) → x ≡ index_at i g p → {w : Verdict} → w ≡ judged (joint_checks t s)
+      pub whole-verdict : (y : c ≡ accepted) (i : ℕ) (x : List ℕ) → x ≡ index_at i g p → {w : Verdict} → w ≡ judged (joint_checks t s)
           → GraphJudged t s n m k i g p v x w
       unfolding index_area
-      accepted y i x xIs j =
+      whole-verdict y i x xIs j =
           let rowed = index_rows n m i (rows s) laid.nodes_room laid.properties_room laid.fits in
           let is = xIs ∙ ap₂ (index_at i) laid.nodes laid.properties ∙ sym rowed in
           record {

@@ -7,8 +7,7 @@ use Rattle.rules.specs.Graph.{graph_of, check22, check23, check24, check25, chec
 use Rattle.rules.specs.Answer.{Numbered, ◌by◌, graph_checks}
 use Rattle.tables.specs.Layout.{node_area, property_area, value_area}
 use Rattle.index.specs.Index.{index_area}
-use Rattle.checks.specs.declared.Verdict.{Verdict}
-use Rattle.checks.specs.Verdict.{judged}
+use Rattle.checks.specs.Verdict.{Verdict, accepted, judged}
 
 -- the checks of a row by itself, under which the rows can be indexed, and those of a row and the others
 unfoldable pub alone_checks : Schema → List ℕ → List Numbered
@@ -28,6 +27,6 @@ joint_checks s text =
 pub record GraphJudged (s : Schema) (text : List ℕ) (n m k i : ℕ) (nodes properties values index : List ℕ) (v : Verdict) : Type 0 where
   pub is : v ≡ judged (graph_checks s text)
   pub long : (length nodes ≡ n) × (length properties ≡ m) × (length values ≡ k) × (length index ≡ i)
-  pub held : v.number ≡ 0
+  pub held : v ≡ accepted
       → (nodes ≡ node_area n (rows text)) × (properties ≡ property_area m (rows text)) × (values ≡ value_area k (rows text))
       × (index ≡ index_area i (rows text))

@@ -1,7 +1,9 @@
 // The verdict on a graph's text under an accepted schema: checks 20 to 27.
 #![tactic(auto)]
 
-ghost use Rattle.std.specs.Prelude.{◌≡◌, ◌≤◌, length};
+ghost use Rattle.std.specs.Prelude.{◌≡◌, [], ◌∷◌, ◌<◌, ◌≤◌, length};
+ghost use Rattle.rules.specs.Search.{first_line};
+ghost use Rattle.rules.specs.Answer.{◌by◌};
 ghost use Rattle.rules.specs.Text.{rows, lines};
 ghost use Rattle.rules.specs.Graph.{nodes_of};
 ghost use Rattle.rules.proofs.Clean.{Each};
@@ -9,75 +11,64 @@ ghost use Rattle.tables.specs.Fill.{Plain};
 ghost use Rattle.tables.specs.Read.{schema_at};
 ghost use Rattle.masks.specs.Masks.{Masked};
 ghost use Rattle.schema.specs.Held.{SchemaHeld};
-ghost use Rattle.graph.specs.Held.{NodesHeld};
 ghost use Rattle.graph.specs.Faults.{nodes_at};
-ghost use Rattle.search.specs.Search.{areas, GraphReady, Indexed};
+ghost use Rattle.search.specs.Given.{areas_in};
+ghost use Rattle.search.specs.Search.{graph_in, row_number, check_by, GraphReady, Indexed, IndexReady};
 ghost use Rattle.checks.specs.Verdict.{judged};
 ghost use Rattle.graph_text.specs.GraphVerdict.{alone_checks, joint_checks, GraphJudged};
 
-use checks::Verdict;
-use rules::TypeNo;
+use graph::NodeTables;
+use rules::{Refusal, TextKind, TypeNo};
+use search::{Areas, RowCheck};
+use tables::FormedText;
 
 // How many nodes are of a type.
-fn count_nodes(g: &[u32], t: TypeNo) -> u32
-    requires { NodesHeld g.now }
-    ensures { result ≡ length (nodes_of (nodes_at g.now) t) }
+fn count_nodes(g: &NodeTables, t: TypeNo) -> u32
+    ensures { result ≡ length (nodes_of (nodes_at g.now.area.now) t) }
 {
-    let n = g[0];
     let mut found: u32 = 0;
-    let mut u: u32 = 0;
-    while u < n {
-        let k = graph::type_of(g, u);
-        u += 1;
-        if k.0 == t.0 {
+    for u in 0..g.area[0] {
+        if g.type_of(u) == t {
             found += 1;
         }
     }
     found
 }
 
-// Checks 22 to 24 of a graph that is laid out: those of a row by itself. What the index holds does not matter.
-fn judge_alone(s: &[u8], a: &[u32], g: &[u32], p: &[u32], v: &[u32], ix: &[u32]) -> Verdict
-    requires s_len_bound { length s.now ≤ 65535 }
-    requires each { Each Plain (lines s.now) }
-    requires graph_ready { GraphReady (rows s.now) (areas a.now g.now p.now v.now) }
-    ensures { result ≡ judged (alone_checks (schema_at a.now) s.now) }
+// One of the checks 22 to 26 of a graph that is laid out. The index matters to 25 and 26.
+fn judge_rows(check: RowCheck, s: &FormedText, x: &Areas) -> Result<(), Refusal>
+    requires graph_ready { GraphReady (rows s.now.bytes.now) (areas_in x.now) }
+    requires of_graph { 21 < row_number check }
+    requires index_ready { IndexReady (row_number check) x.now.nodes.now x.now.properties.now x.now.index.now }
+    ensures { result ≡ judged (row_number check by first_line (check_by (row_number check) (schema_at x.now.schema.now) (graph_in (areas_in x.now))) (rows s.now.bytes.now) ∷ []) }
 {
-    let b = search::first_offence(22, s, a, g, p, v, ix);
-    if 0 < b.line {
-        return checks::refuse(22, b);
-    }
-    let c = search::first_offence(23, s, a, g, p, v, ix);
-    if 0 < c.line {
-        return checks::refuse(23, c);
-    }
-    let d = search::first_offence(24, s, a, g, p, v, ix);
-    if 0 < d.line {
-        return checks::refuse(24, d);
-    }
-    checks::refuse(0, checks::nowhere())
+    let offence = search::first_offence(check, s, x);
+    checks::pass(check.number(), offence)
+}
+
+// Checks 22 to 24 of a graph that is laid out: those of a row by itself. What the index holds does not matter.
+fn judge_alone(s: &FormedText, x: &Areas) -> Result<(), Refusal>
+    requires graph_ready { GraphReady (rows s.now.bytes.now) (areas_in x.now) }
+    ensures { result ≡ judged (alone_checks (schema_at x.now.schema.now) s.now.bytes.now) }
+{
+    judge_rows(RowCheck::GraphNumbers, s, x)?;
+    judge_rows(RowCheck::NotOwned, s, x)?;
+    judge_rows(RowCheck::WrongType, s, x)
 }
 
 // Checks 25 to 27 of a graph that is laid out, with its index: those of a row and the others.
-fn judge_joint(s: &[u8], a: &[u32], g: &[u32], p: &[u32], v: &[u32], ix: &[u32]) -> Verdict
-    requires s_len_bound { length s.now ≤ 65535 }
-    requires each { Each Plain (lines s.now) }
-    requires graph_ready { GraphReady (rows s.now) (areas a.now g.now p.now v.now) }
-    requires indexed { Indexed g.now p.now ix.now }
-    ensures { result ≡ judged (joint_checks (schema_at a.now) s.now) }
+fn judge_joint(s: &FormedText, x: &Areas) -> Result<(), Refusal>
+    requires graph_ready { GraphReady (rows s.now.bytes.now) (areas_in x.now) }
+    requires indexed { Indexed x.now.nodes.now x.now.properties.now x.now.index.now }
+    ensures { result ≡ judged (joint_checks (schema_at x.now.schema.now) s.now.bytes.now) }
 {
-    let b = search::first_offence(25, s, a, g, p, v, ix);
-    if 0 < b.line {
-        return checks::refuse(25, b);
+    judge_rows(RowCheck::SecondTarget, s, x)?;
+    judge_rows(RowCheck::Twin, s, x)?;
+    let nodes = NodeTables { area: x.nodes };
+    if count_nodes(&nodes, x.schema_tables().query_type()) != 1 {
+        return checks::refuse(27);
     }
-    let c = search::first_offence(26, s, a, g, p, v, ix);
-    if 0 < c.line {
-        return checks::refuse(26, c);
-    }
-    if count_nodes(g, schema::query_type(a)) != 1 {
-        return checks::refuse(27, checks::nowhere());
-    }
-    checks::refuse(0, checks::nowhere())
+    Ok(())
 }
 
 // The verdict on a graph's text. Where it is accepted, the areas hold it, with its index.
@@ -88,7 +79,7 @@ pub fn judge_graph(
     p: &mut [u32],
     v: &mut [u32],
     ix: &mut [u32],
-) -> Verdict
+) -> Result<(), Refusal>
     requires schema_held { SchemaHeld a.now × Masked a.now }
     requires in_bounds { 15880 ≤ length g.old }
     requires in_bounds_2 { 14344 ≤ length p.old }
@@ -97,15 +88,24 @@ pub fn judge_graph(
     requires in_bounds_4 { 3072 ≤ length ix.old }
     ensures { GraphJudged (schema_at a.now) s.now (length g.old) (length p.old) (length v.old) (length ix.old) g.new p.new v.new ix.new result }
 {
-    let b = checks::judge_form(20, s, a);
-    if b.number != 0 {
-        return b;
-    }
-    tables::lay_graph(s, g, p, v);
-    let c = judge_alone(s, a, g, p, v, ix);
-    if c.number != 0 {
-        return c;
-    }
+    checks::judge_form(TextKind::Graph, s)?;
+    let text = FormedText { bytes: s };
+    tables::lay_graph(&text, g, p, v);
+    let laid = Areas {
+        schema: a,
+        nodes: g,
+        properties: p,
+        values: v,
+        ..Areas::default()
+    };
+    judge_alone(&text, &laid)?;
     index::lay_index(g, p, ix);
-    judge_joint(s, a, g, p, v, ix)
+    let indexed = Areas {
+        schema: a,
+        nodes: g,
+        properties: p,
+        values: v,
+        index: ix,
+    };
+    judge_joint(&text, &indexed)
 }

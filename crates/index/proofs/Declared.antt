@@ -4,7 +4,7 @@ use native.Mathlib.Omega.{arith}
 use mathlib.Core.Path.{◌≡◌, refl}
 use mathlib.Core.Bool.{Bool, true, false, ◌||◌}
 use mathlib.Core.List.{List, [], ◌∷◌}
-use mathlib.Core.Option.{none}
+use Rattle.std.specs.Prelude.{None}
 use lib.ListN.{length, get_or}
 use borrow.Author.Tests.{ltb-true, not-false}
 use Rattle.rules.specs.Lists.{those, keep_if}
@@ -37,7 +37,7 @@ each-those l m (r ∷ rs) c j h = go (λ i k. each-those l m rs c.1 i k) (is l r
     go ih true e (suc i) k = ih i (omega arith)
     go ih false e i k = ih i k
 
-module _ (s : Schema) (rs : List Row) (passed : first_line (check22 s (graph_of rs)) rs ≡ none) (fits : GraphFits rs) where
+module _ (s : Schema) (rs : List Row) (passed : first_line (check22 s (graph_of rs)) rs ≡ None) (fits : GraphFits rs) where
   few : (graph_of rs).size ≤ 512
   unfolding counted belongs
   few = fits.nodes

@@ -28,6 +28,8 @@ module _ (n l : ℕ) where
       go zero h = absurd (h refl)
       go (suc m) h = omega arith
 
+pub ruleset led_laws = (led_none, led_some)
+
 -- ---- the first row of a key: by its link, and of a number that is no key's
 
 module _ (x : List ℕ) (at n u : ℕ) where

@@ -10,6 +10,8 @@ ghost use Rattle.tables.specs.Fill.{Plain, SchemaFits};
 ghost use Rattle.index.specs.Index.{led_to, keys, Rowed, Blank, row_linked, LinksLaid, sources_at, index_at};
 ghost use Rattle.index.specs.Buckets.{bucket_at, links_end, schema_linked, Linkable};
 
+use tables::FormedText;
+
 // Where the links of `H`, of `G` and of `M` stand in the schema's area.
 pub const HAS_LINKS: usize = 9992;
 
@@ -17,7 +19,9 @@ pub const TAKES_LINKS: usize = 11528;
 
 pub const MEMBER_LINKS: usize = 13064;
 
-// The row that a link leads to, n where it leads to none.
+// The row that a link leads to, n where it leads to none: that, and no `None`, is what the definitions of the index say (`led_to`,
+// `own_from`), and each loop along a chain ends at n.
+#[tactic(auto, using(crate::proofs::Links::led_laws))]
 fn led_to(n: usize, link: u32) -> usize
     ensures { result ≡ led_to n link }
 {
@@ -28,6 +32,7 @@ fn led_to(n: usize, link: u32) -> usize
 }
 
 // The first row of key u, by the links from `at` on of a table of n rows; n where it has none.
+#[tactic(auto, unfolding(tables::specs::Read::cell))]
 pub fn first_row(x: &[u32], at: usize, n: usize, u: u32) -> usize
     requires at_in_bounds { at + 1536 ≤ length x.now }
     requires at_bound { at ≤ 13064 }
@@ -40,6 +45,7 @@ pub fn first_row(x: &[u32], at: usize, n: usize, u: u32) -> usize
 }
 
 // The next row of the key of row j.
+#[tactic(auto, unfolding(tables::specs::Read::cell))]
 pub fn next_row(x: &[u32], at: usize, n: usize, j: usize) -> usize
     requires at_in_bounds { at + 1536 ≤ length x.now }
     requires at_bound { at ≤ 13064 }
@@ -50,6 +56,7 @@ pub fn next_row(x: &[u32], at: usize, n: usize, j: usize) -> usize
 }
 
 // Puts row j before the rows of a key: the key's first link becomes the row's next, and the row becomes the key's first.
+#[tactic(auto, unfolding(tables::specs::Read::cell, crate::specs::Index::row_linked))]
 fn link_row(x: &mut [u32], at: usize, j: usize, key: usize)
     requires at_in_bounds { at + 1536 ≤ length x.old }
     requires at_bound { at ≤ 13064 }
@@ -68,9 +75,7 @@ fn lay_links(a: &[u32], base: usize, n: usize, x: &mut [u32], at: usize)
     requires blank { Blank x.old at }
     ensures { LinksLaid (sources_at a.now base n) at x.old x.new }
 {
-    let mut j = n;
-    while 0 < j {
-        j -= 1;
+    for j in (0..n).rev() {
         let node = tables::row_cell(a, base, 14, j, 2);
         link_row(x, at, j, node as usize);
     }
@@ -88,26 +93,23 @@ pub fn lay_index(g: &[u32], p: &[u32], x: &mut [u32])
     lay_links(p, 8, p[0] as usize, x, 1536);
 }
 
-// Lays the links of a narrow table of n rows behind it, where zeros stand, from the last row to the first.
+// Lays the links of a narrow table of n rows behind it, where zeros stand, from the last row to the first. Apart from `lay_links`, since
+// it reads the area that it writes: one function for both would take the area twice.
 fn lay_buckets(a: &mut [u32], base: usize, n: usize, at: usize)
     requires { Linkable a.old base n at }
     ensures { LinksLaid (keys (bucket_at a.old base) n) at a.old a.new }
 {
-    let mut j = n;
-    while 0 < j {
-        j -= 1;
+    for j in (0..n).rev() {
         let first = tables::row_cell(a, base, 3, j, 1);
         link_row(a, at, j, (first % 512) as usize);
     }
 }
 
 // Lays the rows of a schema out: its tables, and the links of those that are looked through by their first numbers.
-pub fn lay_schema(s: &[u8], a: &mut [u32])
-    requires s_len_bound { length s.now ≤ 65535 }
-    requires each { Each Plain (lines s.now) }
-    requires schema_fits { SchemaFits (rows s.now) }
+pub fn lay_schema(s: &FormedText, a: &mut [u32])
+    requires schema_fits { SchemaFits (rows s.now.bytes.now) }
     requires links_end_in_bounds { links_end ≤ length a.old }
-    ensures { a.new ≡ schema_linked (length a.old) (rows s.now) }
+    ensures { a.new ≡ schema_linked (length a.old) (rows s.now.bytes.now) }
 {
     tables::lay_schema(s, a);
     let has = a[3] as usize;

@@ -12,7 +12,7 @@ use Rattle.rules.specs.Text.{rows}
 use Rattle.rules.specs.Search.{spot, whole}
 use Rattle.rules.specs.Schema.{Schema, schema_of}
 use Rattle.rules.specs.Answer.{Texts, schema_in, schema_checks, graph_checks, query_checks}
-use Rattle.rules.proofs.Clean.{Each, each_append}
+use Rattle.rules.proofs.Clean.{Each}
 use Rattle.tables.specs.Layout.{node_area, property_area, value_area, query_area}
 use Rattle.masks.specs.Masks.{schema_needed, schema_area, MembersSound, Masked}
 use Rattle.masks.proofs.Agreeing.{area_view}
@@ -20,27 +20,16 @@ use Rattle.tables.specs.Read.{schema_at}
 use Rattle.tables.specs.Fill.{SchemaFits}
 use Rattle.index.specs.Index.{index_area}
 use Rattle.schema.specs.Held.{SchemaHeld}
-use Rattle.checks.specs.declared.Verdict.{Verdict}
-use Rattle.checks.specs.Verdict.{refused_by, judged, text_checks, SchemaJudged}
-use Rattle.checks.proofs.Judging.{judged-at, judged-past, Positive, passed, front, behind}
+use Rattle.std.specs.Prelude.{Err}
+use Rattle.rules.specs.declared.Refusal.{Refusal}
+use Rattle.checks.specs.Verdict.{Verdict, refused_by, accepted, judged, text_checks, SchemaJudged}
+use Rattle.checks.proofs.Judging.{refusal, no_refusal, judged-at, judged-past, passed, front, behind}
 pub use Rattle.checks.proofs.Judging.{Passes}
 use Rattle.checks.proofs.Fitting.{schema-fits, members_sound}
 use Rattle.checks.proofs.SchemaJudging.{area_ready}
 use Rattle.graph_text.specs.GraphVerdict.{GraphJudged}
 use Rattle.query_text.specs.QueryVerdict.{QueryJudged}
 use Rattle.judge.specs.Texts.{texts, Lent, lent, work_areas, too_short_of, Judged}
-
--- ---- the numbers of the checks
-
-schema_numbers : (s : List ℕ) → Each Positive (schema_checks s)
-schema_numbers s = (omega arith, (omega arith, (omega arith, (omega arith, (omega arith, (omega arith, (omega arith, tt)))))))
-
-graph_numbers : (t : Schema) (s : List ℕ) → Each Positive (graph_checks t s)
-graph_numbers t s =
-    (omega arith, (omega arith, (omega arith, (omega arith, (omega arith, (omega arith, (omega arith, (omega arith, tt))))))))
-
-query_numbers : (t : Schema) (s : List ℕ) → Each Positive (query_checks t s)
-query_numbers t s = (omega arith, (omega arith, (omega arith, (omega arith, (omega arith, tt)))))
 
 -- ---- the areas
 
@@ -141,9 +130,6 @@ module _ (w : Lent) where
 
 -- ---- the texts
 
-abbrev number : Verdict → ℕ
-number v = v.number
-
 module _ (s g q : List ℕ) (w : Lent) (long : too_short_of w ≡ false) where
   abbrev x : Texts
   x = texts s g q
@@ -156,16 +142,16 @@ module _ (s g q : List ℕ) (w : Lent) (long : too_short_of w ≡ false) where
   past_2 = judged-past 2 (whole (too_short_of w)) _ (rw long)
 
   module _ {n : ℕ} {a : List ℕ} {b : Verdict} (j : SchemaJudged s n a b) where
-    pub schema-refused : {after : Lent} → (b.number ≡ 0 → ⊥) → Judged x w after b
+    pub schema-refused : {after : Lent} {r : Refusal} → b ≡ Err r → Judged x w after (Err r)
     schema-refused h =
         record {
-          is = j.is ∙ sym (past_2 ∙ front (schema_checks s) _ (λ z. h (ap number j.is ∙ z)));
-          held = λ z. absurd (h z);
+          is = sym h ∙ j.is ∙ sym (past_2 ∙ front (schema_checks s) _ (λ z. refusal (sym h ∙ j.is ∙ z)));
+          held = λ z. absurd (refusal z);
         }
 
-    module _ (room : schema_needed ≤ n) (z : b.number ≡ 0) where
+    module _ (room : schema_needed ≤ n) (z : b ≡ accepted) where
       passes : Each Passes (schema_checks s)
-      passes = passed (schema_checks s) (schema_numbers s) (ap number (sym j.is) ∙ z)
+      passes = passed (schema_checks s) (sym j.is ∙ z)
 
       fits : SchemaFits (rows s)
       fits = schema-fits (rows s) passes.1.0
@@ -188,17 +174,16 @@ module _ (s g q : List ℕ) (w : Lent) (long : too_short_of w ≡ false) where
           ∙ ap (λ (u : Schema). judged (graph_checks u g ++ query_checks u q)) (sym same-schema)
 
       module _ {k l m o : ℕ} {ns ps vs xs : List ℕ} {c : Verdict} (i : GraphJudged (schema_at a) g k l m o ns ps vs xs c) where
-        pub graph-refused : {after : Lent} → (c.number ≡ 0 → ⊥) → Judged x w after c
+        pub graph-refused : {after : Lent} {r : Refusal} → c ≡ Err r → Judged x w after (Err r)
         graph-refused h =
             record {
-              is = i.is ∙ sym (past-schema ∙ front (graph_checks (schema_at a) g) _ (λ y. h (ap number i.is ∙ y)));
-              held = λ y. absurd (h y);
+              is = sym h ∙ i.is ∙ sym (past-schema ∙ front (graph_checks (schema_at a) g) _ (λ y. refusal (sym h ∙ i.is ∙ y)));
+              held = λ y. absurd (refusal y);
             }
 
-        module _ (y : c.number ≡ 0) where
+        module _ (y : c ≡ accepted) where
           passes-graph : Each Passes (graph_checks (schema_at a) g)
-          passes-graph =
-              passed (graph_checks (schema_at a) g) (graph_numbers (schema_at a) g) (ap number (sym i.is) ∙ y)
+          passes-graph = passed (graph_checks (schema_at a) g) (sym i.is ∙ y)
 
           past-graph : judged (text_checks (too_short_of w) x) ≡ judged (query_checks (schema_at a) q)
           past-graph = past-schema ∙ behind (graph_checks (schema_at a) g) _ passes-graph
@@ -225,11 +210,11 @@ module _ (s g q : List ℕ) (w : Lent) (long : too_short_of w ≡ false) where
 
 module _ (s g q : List ℕ) (w : Lent) where
   pub too_short_lem : (after : Lent) (v : Verdict) → too_short_of w ≡ true → v ≡ refused_by 2 (spot 0 0) → Judged (texts s g q) w after v
-  unfolding text_checks refused_by
+  unfolding text_checks
   too_short_lem after v h e =
       record {
         is = e ∙ sym (judged-at 2 (whole (too_short_of w)) _ (spot 0 0) (rw h));
-        held = λ z. absurd (omega (arith, ap (λ (u : Verdict). u.number) e));
+        held = λ z. absurd (no_refusal 2 (spot 0 0) (sym e ∙ z));
       }
 
 -- of the values' area the needed part is lent, and stands at the front afterwards
@@ -266,14 +251,6 @@ widened s g q a ns ps vs xs qs b ms os u ys us rest r h l j =
     }
 
 -- an accepted verdict passes every check
-pub accepted-passes : (x : Texts) (before after : Lent) (v : Verdict) → Judged x before after v → v.number ≡ 0
+pub accepted-passes : (x : Texts) (before after : Lent) (v : Verdict) → Judged x before after v → v ≡ accepted
     → Each Passes (text_checks (too_short_of before) x)
-unfolding text_checks
-accepted-passes x before after v j z =
-    let t = schema_in x in
-    let graphs = graph_checks t x.graph in
-    let queries = query_checks t x.query in
-    let later = each_append Positive graphs queries (graph_numbers t x.graph) (query_numbers t x.query) in
-    passed (text_checks (too_short_of before) x)
-    (omega arith, each_append Positive (schema_checks x.schema) (graphs ++ queries) (schema_numbers x.schema) later)
-    (ap number (sym j.is) ∙ z)
+accepted-passes x before after v j z = passed (text_checks (too_short_of before) x) (sym j.is ∙ z)

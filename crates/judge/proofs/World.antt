@@ -5,7 +5,7 @@ use mathlib.Core.Path.{◌≡◌, refl, ap, ◌∙◌}
 use mathlib.Core.Bool.{Bool, true, false, ◌&&◌}
 use mathlib.Core.Logic.{◌⊎◌}
 use mathlib.Core.List.{List}
-use mathlib.Core.Option.{none}
+use Rattle.std.specs.Prelude.{None}
 use native.Mathlib.Omega.{arith}
 use lib.ListN.{length, take}
 use Rattle.rules.specs.Text.{rows, type_no}
@@ -23,17 +23,16 @@ use Rattle.masks.specs.Masks.{members_of, mask_at, MembersSound}
 use Rattle.masks.proofs.Membership.{bit_member, bit-undeclared, bit_far}
 use Rattle.masks.proofs.Agreeing.{area_view, area_members}
 use Rattle.tables.proofs.Graphs.{graph-view, graph-formed}
-use Rattle.checks.specs.declared.Verdict.{Verdict}
-use Rattle.checks.specs.Verdict.{text_checks}
+use Rattle.checks.specs.Verdict.{Verdict, accepted, text_checks}
 use Rattle.checks.proofs.Fitting.{schema-fits, members_sound, graph-fits}
 use Rattle.judge.specs.Texts.{Lent, too_short_of, Judged}
 use Rattle.judge.proofs.Texts.{Long, long-areas, accepted-passes}
 
-not_offended : (b : Bool) → whole b ≡ none → b ≡ false
+not_offended : (b : Bool) → whole b ≡ None → b ≡ false
 not_offended true h = absurd (some-none h)
 not_offended false h = refl
 
-module _ (x : Texts) (before after : Lent) (v : Verdict) (j : Judged x before after v) (z : v.number ≡ 0) where
+module _ (x : Texts) (before after : Lent) (v : Verdict) (j : Judged x before after v) (z : v ≡ accepted) where
   long : Long before
   unfolding text_checks
   long = long-areas before (not_offended (too_short_of before) (accepted-passes x before after v j z).0)

@@ -5,8 +5,7 @@ use Rattle.rules.specs.Answer.{Texts, Area, too_short}
 use Rattle.tables.specs.Layout.{node_area, property_area, value_area, query_area}
 use Rattle.masks.specs.Masks.{schema_needed, schema_area}
 use Rattle.index.specs.Index.{index_area}
-use Rattle.checks.specs.declared.Verdict.{Verdict}
-use Rattle.checks.specs.Verdict.{judged, text_checks}
+use Rattle.checks.specs.Verdict.{Verdict, accepted, judged, text_checks}
 
 -- "Three texts in (schema, graph, query)"
 unfoldable pub texts : List ℕ → List ℕ → List ℕ → Texts
@@ -51,4 +50,4 @@ pub record Holding (x : Texts) (before after : Lent) : Type 0 where
 
 pub record Judged (x : Texts) (before after : Lent) (v : Verdict) : Type 0 where
   pub is : v ≡ judged (text_checks (too_short_of before) x)
-  pub held : v.number ≡ 0 → Holding x before after
+  pub held : v ≡ accepted → Holding x before after

@@ -6,9 +6,11 @@ ghost use Rattle.std.specs.Prelude.{◌≡◌, ◌≤◌, length};
 ghost use Rattle.masks.specs.Masks.{schema_needed};
 ghost use Rattle.judge.specs.Texts.{texts, lent, too_short_of, Judged};
 
-use checks::Verdict;
+// The areas are lent one by one, as C lends them, and go on so as far as here.
+use rules::Refusal;
 
-// Whether an area is shorter than it has to be.
+// Whether an area is shorter than it has to be. One test after another: joined by `||` the paths meet again after each, which is no
+// plainer to prove.
 fn short(a: &[u32], g: &[u32], p: &[u32], v: &[u32], ix: &[u32], q: &[u32]) -> bool
     ensures { result ≡ too_short_of (lent a.now g.now p.now v.now ix.now q.now) }
 {
@@ -41,7 +43,7 @@ fn judge_texts(
     v: &mut [u32],
     ix: &mut [u32],
     q: &mut [u32],
-) -> Verdict
+) -> Result<(), Refusal>
     requires schema_needed_in_bounds { schema_needed ≤ length a.old }
     requires in_bounds { 15880 ≤ length g.old }
     requires in_bounds_2 { 14344 ≤ length p.old }
@@ -50,18 +52,12 @@ fn judge_texts(
     requires in_bounds_4 { 3592 ≤ length q.old }
     ensures { Judged (texts schema.now graph.now query.now) (lent a.old g.old p.old v.old ix.old q.old) (lent a.new g.new p.new v.new ix.new q.new) result }
 {
-    let b = checks::judge_schema(schema, a);
-    if b.number != 0 {
-        return b;
-    }
-    let c = graph_text::judge_graph(graph, a, g, p, v, ix);
-    if c.number != 0 {
-        return c;
-    }
+    checks::judge_schema(schema, a)?;
+    graph_text::judge_graph(graph, a, g, p, v, ix)?;
     query_text::judge_query(query, a, q)
 }
 
-// The verdict on any three texts in any areas. Where it is number 0, the areas hold the tables.
+// The verdict on any three texts in any areas. Where they are accepted, the areas hold the tables.
 pub fn judge(
     schema: &[u8],
     graph: &[u8],
@@ -72,11 +68,11 @@ pub fn judge(
     v: &mut [u32],
     ix: &mut [u32],
     q: &mut [u32],
-) -> Verdict
+) -> Result<(), Refusal>
     ensures { Judged (texts schema.now graph.now query.now) (lent a.old g.old p.old v.old ix.old q.old) (lent a.new g.new p.new v.new ix.new q.new) result }
 {
     if short(a, g, p, v, ix, q) {
-        return checks::refuse(2, checks::nowhere());
+        return checks::refuse(2);
     }
     judge_texts(schema, graph, query, a, g, p, &mut v[..8200], ix, q)
 }

@@ -175,6 +175,8 @@ module _ (a : List ℕ) (t v : ℕ) (e : v ≡ letter_at a t) where
   unfolding object_joined
   object-joined b h f = rw (eq-eqb (letter_at a t) O (sym e ∙ h)) f
 
+pub ruleset join_laws = (joined-stored, no_object, object-joined)
+
 -- ---- one after another
 
 -- a turn of a loop that joins
@@ -219,6 +221,13 @@ still_joinable a b n h e =
     }
 
 -- ---- what is said in the masks
+
+-- the count stands as it stood
+pub count_kept : (a b : List ℕ) (n j : ℕ) → b ≡ members_joined a n → j < cell a member_count → j < cell b member_count
+count_kept a b n j e h =
+    omega (arith, ap (λ (l : List ℕ). cell l member_count) e, members_front a n member_count (omega arith))
+
+pub ruleset turn_laws = (join-turn, still_joinable, count_kept)
 
 -- type j is an object type, and it is both x and y
 unfoldable pub own_at : List ℕ → ℕ → ℕ → ℕ → Bool
@@ -352,3 +361,5 @@ module _ (a : List ℕ) (h : Maskable a) (b : List ℕ) (first : b ≡ objects_j
       e ∙ ap₂ members_joined objects-laid (front member_count (omega arith))
       ∙ members_masked a h.long (cell a type_count) (cell a member_count) h.members (rows_small a h.sound)
       ∙ masked_same _ _ a h.long (λ x y l k. joins_member a h.sound x y)
+
+pub ruleset whole_laws = (members_joinable, all-joined)

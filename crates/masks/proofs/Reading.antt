@@ -21,3 +21,5 @@ module _ (a : List ℕ) where
   pub members_read : (t : TypeNo) (m : ℕ) → Masked a → m ≡ mask_at a t.0 → m ≡ members_of (schema_at a) t
   unfolding Masked
   members_read t m held e = e ∙ held.agree t
+
+pub ruleset reading_laws = (mask_none, mask_read, members_read)

@@ -29,6 +29,7 @@ const CELL_SIZE: u64 = 4294967296;
 // ---- asking
 
 // Half of a mask, which stands at place i.
+#[tactic(auto, unfolding(tables::specs::Read::cell))]
 fn half_at(a: &[u32], i: usize) -> u64
     requires { i < length a.now }
     ensures value { result ≡ cell a.now i }
@@ -38,69 +39,72 @@ fn half_at(a: &[u32], i: usize) -> u64
 }
 
 // The mask of type t as one number, 0 where t cannot be a type's number.
-fn mask_of(a: &[u32], t: u32) -> u64
+#[tactic(auto, using(crate::proofs::Reading::reading_laws))]
+fn mask_of(a: &[u32], t: TypeNo) -> u64
     requires { schema_needed ≤ length a.now }
-    ensures { result ≡ mask_at a.now t }
+    ensures { result ≡ mask_at a.now t.0 }
 {
-    if 64 <= t {
+    if 64 <= t.0 {
         return 0;
     }
-    let at = MASKS + 2 * (t as usize);
+    let at = MASKS + 2 * (t.0 as usize);
     let low = half_at(a, at);
     let high = half_at(a, at + 1);
     low + CELL_SIZE * high
 }
 
 // The object types that are compatible with t, as the bits of one number.
+#[tactic(auto, using(crate::proofs::Reading::reading_laws), unfolding(crate::specs::Masks::Masked))]
 pub fn members(a: &[u32], t: TypeNo) -> u64
     requires { Masked a.now }
     ensures { result ≡ members_of (schema_at a.now) t }
 {
-    mask_of(a, t.0)
+    mask_of(a, t)
 }
 
 // ---- laying
 
 // Sets bit o of the mask of type t.
-fn join(a: &mut [u32], t: u32, o: u32)
+#[tactic(auto, using(crate::proofs::Joining::join_laws))]
+fn join(a: &mut [u32], t: TypeNo, o: TypeNo)
     requires schema_needed_in_bounds { schema_needed ≤ length a.old }
-    requires t_bound { t < 64 }
-    requires o_bound { o < 64 }
-    ensures { a.new ≡ joined a.old t o }
+    requires t_bound { t.0 < 64 }
+    requires o_bound { o.0 < 64 }
+    ensures { a.new ≡ joined a.old t.0 o.0 }
 {
-    let m = bits::with_bit(mask_of(a, t), o);
-    let at = MASKS + 2 * (t as usize);
+    let m = bits::with_bit(mask_of(a, t), o.0);
+    let at = MASKS + 2 * (t.0 as usize);
     a[at] = (m % CELL_SIZE) as u32;
     a[at + 1] = (m / CELL_SIZE) as u32;
 }
 
 // Joins type t to itself where it is an object type.
-fn join_object(a: &mut [u32], t: u32)
+#[tactic(auto, using(crate::proofs::Joining::join_laws))]
+fn join_object(a: &mut [u32], t: TypeNo)
     requires schema_needed_in_bounds { schema_needed ≤ length a.old }
-    requires t_bound { t < 64 }
-    ensures { a.new ≡ object_joined a.old t }
+    requires t_bound { t.0 < 64 }
+    ensures { a.new ≡ object_joined a.old t.0 }
 {
-    if tables::row_cell(a, TYPE_ROWS, 3, t as usize, 0) != 79 {
+    if tables::row_cell(a, TYPE_ROWS, 3, t.0 as usize, 0) != b'O' as u32 {
         return;
     }
     join(a, t, t);
 }
 
 // Joins each object type to itself.
+#[tactic(auto, using(crate::proofs::Joining::turn_laws), unfolding(tables::specs::Read::cell, crate::specs::Join::joined_by))]
 fn join_objects(a: &mut [u32])
     requires schema_needed_in_bounds { schema_needed ≤ length a.old }
     requires type_count_bound { cell a.old type_count ≤ 64 }
     ensures { a.new ≡ objects_joined a.old (cell a.old type_count) }
 {
-    let types = a[TYPE_COUNT];
-    let mut t: u32 = 0;
-    while t < types {
-        join_object(a, t);
-        t += 1;
+    for t in 0..a[TYPE_COUNT] {
+        join_object(a, TypeNo(t));
     }
 }
 
 // Joins the object of `M` record j to its type.
+#[tactic(auto, unfolding(crate::specs::Join::member_joined))]
 fn join_member(a: &mut [u32], j: usize)
     requires joinable { Joinable a.old }
     requires j_bound { j < cell a.old member_count }
@@ -108,23 +112,22 @@ fn join_member(a: &mut [u32], j: usize)
 {
     let t = tables::row_cell(a, MEMBER_ROWS, 3, j, 1);
     let o = tables::row_cell(a, MEMBER_ROWS, 3, j, 2);
-    join(a, t, o);
+    join(a, TypeNo(t), TypeNo(o));
 }
 
 // Joins the object of each `M` record to its type.
+#[tactic(auto, using(crate::proofs::Joining::turn_laws), unfolding(tables::specs::Read::cell, crate::specs::Join::joined_by))]
 fn join_members(a: &mut [u32])
     requires { Joinable a.old }
     ensures { a.new ≡ members_joined a.old (cell a.old member_count) }
 {
-    let members = a[MEMBER_COUNT] as usize;
-    let mut j: usize = 0;
-    while j < members {
+    for j in 0..a[MEMBER_COUNT] as usize {
         join_member(a, j);
-        j += 1;
     }
 }
 
 // Lays the masks of an accepted schema behind its tables and links.
+#[tactic(auto, using(crate::proofs::Joining::whole_laws))]
 pub fn lay_masks(a: &mut [u32])
     requires { Maskable a.old }
     ensures { a.new ≡ masked (member_of (schema_at a.old)) a.old }

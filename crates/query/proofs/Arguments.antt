@@ -1,24 +1,24 @@
 -- The loop over an entry's arguments: what the pairs from the i-th on say. Assumes nothing.
 use Prim.Native.Nat.{ℕ, suc, ◌+◌, ◌*◌, ◌-◌, ◌≤◌, ◌<◌}
-use mathlib.Core.Path.{◌≡◌, sym, ap, ◌∙◌}
+use mathlib.Core.Path.{◌≡◌, refl, sym, ap, ◌∙◌}
 use mathlib.Core.List.{List, ◌∷◌}
 use mathlib.Core.Bool.{Bool, true, false, not}
-use mathlib.Core.Option.{Option, none}
+use Rattle.std.specs.Prelude.{Option, None, Some}
 use native.Mathlib.Omega.{arith}
 use native.Mathlib.Numerals.{unary_clauses}
 use lib.ListN.{drop}
 use lib.Seq.{drop-cons}
-use borrow.Author.Tests.{not-true, eq-eqb, ne_eqb}
 use Rattle.rules.specs.Text.{Pair, at, pairs, pairs_of, arg_no}
-use Rattle.rules.specs.Search.{test_each, fault_of, as_fault}
-use Rattle.rules.specs.Schema.{Schema, declared_arg, takes_arg}
+use Rattle.rules.specs.Search.{test_each, fault_of}
+use Rattle.rules.specs.Schema.{Schema, takes_arg}
 use Rattle.rules.specs.declared.ArgNo.{ArgNo}
 use Rattle.rules.specs.declared.FieldNo.{FieldNo}
-use Rattle.rules.specs.declared.Fault.TheVariants.{Fine, Field}
 use Rattle.rules.proofs.Rising.{Behind, behind-each, each-stop, each_on}
 use Rattle.tables.specs.Read.{cell, wide_at, numbers_at, schema_at}
 use Rattle.query.specs.Entries.{QueryHeld, entry_at}
 use Rattle.query.specs.Faults.{arg_passes, args_fault}
+use Rattle.query.specs.declared.EntryCheck.{EntryCheck}
+use Rattle.query.specs.declared.EntryCheck.TheVariants.{Depths, Numbers, Validity}
 use Rattle.query.proofs.Cells.{number_at, count_at, numbers_long}
 
 abbrev pub arg_test : (ArgNo → Bool) → Pair → Bool
@@ -73,10 +73,10 @@ module _ (ok : ArgNo → Bool) (q : List ℕ) (k : ℕ) where
     found : ok (arg_no (wide_at q 8 k (6 + 2 * i))) ≡ b
     found = ap (λ (m : ℕ). ok (arg_no m)) (sym e) ∙ sym f
 
-    pub args-stop : b ≡ false → Field (6 + 2 * i) ≡ as_fault total
+    pub args-stop : b ≡ false → Some (6 + 2 * i) ≡ total
     args-stop g =
         let stops = each-stop (arg_test ok) 2 (6 + 2 * i) (here i) (behind_it i) (omega arith) (ap not (found ∙ g)) in
-        sym (ap as_fault (t ∙ turn i h l (omega arith) ∙ stops))
+        sym (t ∙ turn i h l (omega arith) ∙ stops)
 
     pub args-on : b ≡ true → total ≡ args_from (i + 1)
     unfolding args_from
@@ -85,18 +85,18 @@ module _ (ok : ArgNo → Bool) (q : List ℕ) (k : ℕ) where
         let z : 2 + (6 + 2 * i) ≡ 6 + 2 * (i + 1) = omega arith in
         t ∙ turn i h l (omega arith) ∙ on ∙ ap (λ (m : ℕ). fault_of (test_each (arg_test ok) 2 m (behind_it i))) z
 
-  pub args-done : (n i : ℕ) (total : Option ℕ) → total ≡ args_from i → n ≡ wide_at q 8 k 5 → n ≤ i → Fine ≡ as_fault total
+  pub args-done : (n i : ℕ) (total : Option ℕ) → total ≡ args_from i → n ≡ wide_at q 8 k 5 → n ≤ i → None ≡ total
   unfolding args_from
   args-done n i total t en h =
       let z : wide_at q 8 k 5 - i ≡ 0 = omega arith in
-      let y : args_from i ≡ none = rw z in
-      sym (ap as_fault (t ∙ y))
+      let y : args_from i ≡ None = rw z in
+      sym (t ∙ y)
 
 pub args-few : (q : List ℕ) (k n : ℕ) → QueryHeld q → k < cell q 0 → n ≡ wide_at q 8 k 5 → n ≤ 4
 args-few q k n h l e = omega (arith, h.pairs k l)
 
 -- the test of the code: with a number, of field f
-module _ (n : ℕ) (a q : List ℕ) (k : ℕ) (f : FieldNo) where
+module _ (n : EntryCheck) (a q : List ℕ) (k : ℕ) (f : FieldNo) where
   pub fault-all : args_fault n a q k f ≡ args_from (arg_passes n (schema_at a) f) q k 0
   unfolding args_fault
   fault-all = args-all (arg_passes n (schema_at a) f) q k
@@ -104,17 +104,11 @@ module _ (n : ℕ) (a q : List ℕ) (k : ℕ) (f : FieldNo) where
   pub fault_late : Behind 6 (args_fault n a q k f)
   fault_late = rw fault-all (args_late (arg_passes n (schema_at a) f) q k)
 
-module _ (n : ℕ) (s : Schema) (f : FieldNo) (x : ArgNo) (r : Bool) where
-  pub by_33 : n ≡ 33 → r ≡ declared_arg s x → r ≡ arg_passes n s f x
-  unfolding arg_passes
-  by_33 e h = h ∙ rw (eq-eqb n 33 e)
-
-  pub by_34 : (n ≡ 33 → ⊥) → r ≡ takes_arg s f x → r ≡ arg_passes n s f x
-  unfolding arg_passes
-  by_34 e h = h ∙ rw (ne_eqb n 33 e)
-
-pub ruleset pass-laws = (by_33, by_34)
+-- what is no check of numbers asks the field
+pub other_taken : (n : EntryCheck) (s : Schema) (f : FieldNo) (x : ArgNo) → (n ≡ Numbers → ⊥) → takes_arg s f x ≡ arg_passes n s f x
+unfolding arg_passes
+other_taken Depths s f x h = refl
+other_taken Numbers s f x h = absurd (h refl)
+other_taken Validity s f x h = refl
 
 pub ruleset arg_laws = (args-few, fault-all)
-
-pub ruleset stop-laws = (not-true, args-stop)

@@ -6,13 +6,13 @@ use mathlib.Core.Bool.{Bool, true, false, not, ◌||◌, cond}
 use native.Mathlib.Omega.{arith}
 use native.Mathlib.Numerals.{add-one}
 use lib.Dec.{leb, eqb}
-use borrow.Author.Tests.{lt-ltb, le-ltb, le-leb, lt-leb, eq-eqb, ne_eqb, not-true, not-false}
+use borrow.Author.Tests.{lt-ltb, le-ltb, le-leb, lt-leb, eq-eqb, ne_eqb}
 use Rattle.rules.specs.Text.{Row, T, at, field_no, type_no}
-use Rattle.rules.specs.Search.{◌#◌, given, fault, as_fault}
+use Rattle.rules.specs.Search.{◌#◌, given, fault}
 use Rattle.rules.specs.Schema.{Schema, is, field_type}
 use Rattle.rules.specs.Query.{asked, condition, has_child, hands_down}
 use Rattle.rules.specs.declared.TypeNo.{TypeNo}
-use Rattle.rules.specs.declared.Fault.TheVariants.{Fine, Field}
+use Rattle.std.specs.Prelude.{None, Some}
 use Rattle.tables.specs.Read.{cell, wide_at, schema_at}
 use Rattle.query.specs.Entries.{entry_at, entries_from, behind}
 use Rattle.query.specs.Faults.{fault32}
@@ -92,29 +92,29 @@ pub ruleset hand-laws = (hand_field, hand_type)
 -- ---- check 32
 
 -- too deep is the fault, whatever stands below
-deep-any : (t c : Bool) → Field 2 ≡ as_fault (fault (given true ((2 # true) ∷ []) ∷ given t ((0 # not c) ∷ []) ∷ []))
+deep-any : (t c : Bool) → Some 2 ≡ (fault (given true ((2 # true) ∷ []) ∷ given t ((0 # not c) ∷ []) ∷ []))
 deep-any true true = refl
 deep-any true false = refl
 deep-any false c = refl
 
 module _ (q : List ℕ) (k d e : ℕ) (ee : e ≡ wide_at q 8 k 2) where
-  pub deep : d < e → Field 2 ≡ as_fault (fault32 q k d)
+  pub deep : d < e → Some 2 ≡ (fault32 q k d)
   unfolding fault32
   deep h = rw (depth-at q k, ← ee, lt-ltb d e h) (deep-any (is T (entry_at q k)) (has_child (entry_at q k) (behind q k)))
 
   module _ (s : e ≤ d) (l : ℕ) (el : l ≡ wide_at q 8 k 0) where
     pub childless : (b : Bool) → l ≡ 84 → b ≡ has_child (entry_at q k) (behind q k) → b ≡ false
-        → Field 0 ≡ as_fault (fault32 q k d)
+        → Some 0 ≡ (fault32 q k d)
     unfolding fault32
     childless b f g h = rw (depth-at q k, ← ee, le-ltb d e s, letter_at_lem q k, ← el, f, ← g, h)
 
     pub with_child : (b : Bool) → l ≡ 84 → b ≡ has_child (entry_at q k) (behind q k) → b ≡ true
-        → Fine ≡ as_fault (fault32 q k d)
+        → None ≡ (fault32 q k d)
     unfolding fault32
     with_child b f g h = rw (depth-at q k, ← ee, le-ltb d e s, letter_at_lem q k, ← el, f, ← g, h)
 
-    pub no_condition : (l ≡ 84 → ⊥) → Fine ≡ as_fault (fault32 q k d)
+    pub no_condition : (l ≡ 84 → ⊥) → None ≡ (fault32 q k d)
     unfolding fault32
     no_condition n = rw (depth-at q k, ← ee, le-ltb d e s, letter_at_lem q k, ← el, ne_eqb l 84 n)
 
-pub ruleset step-laws = (not-true, not-false, deep, childless, with_child, no_condition)
+pub ruleset step-laws = (deep, childless, with_child, no_condition)

@@ -5,7 +5,7 @@ use Rattle.rules.specs.World.{World}
 use Rattle.rules.specs.Eval.{eval}
 use Rattle.rules.specs.Sizing.{visits, start, total, cap}
 use Rattle.rules.specs.Answer.{Texts, world_of, tree_of, root_of, response, visits_in, told}
-use Rattle.checks.specs.declared.Verdict.{Verdict}
+use Rattle.checks.specs.Verdict.{Verdict, accepted}
 use Rattle.judge.specs.Texts.{Lent, Judged}
 use Rattle.world.specs.World.{WorldHeld}
 use Rattle.world.specs.ByIndex.{world_by}
@@ -20,7 +20,7 @@ through : (w : Lent) → WorldHeld w.schema w.nodes w.properties (take 8200 w.va
 through w h =
     same-world w.schema w.nodes w.properties (take 8200 w.values) w.index h.graph.edges.links h.own
 
-module _ (x : Texts) (before after : Lent) (v : Verdict) (j : Judged x before after v) (z : v.number ≡ 0) where
+module _ (x : Texts) (before after : Lent) (v : Verdict) (j : Judged x before after v) (z : v ≡ accepted) where
   pub indexed-world : world_through after ≡ world_of x
   indexed-world = let r = readable x before after v j z in through after r.held ∙ r.world
 

@@ -7,15 +7,14 @@ use lib.Dec.{ltb}
 use lib.ListN.{length}
 use borrow.Author.Tests.{lt-ltb, le-ltb}
 use Rattle.rules.specs.Lists.{any}
-use Rattle.rules.specs.Search.{spot, whole}
+use Rattle.rules.specs.Search.{whole}
 use Rattle.rules.specs.Answer.{Texts, Area, schema_in, graph_rows, tree_of, root_of, checks, eval_checks}
 use Rattle.rules.specs.Contract.{Passed}
 use Rattle.rules.proofs.Bools.{or_left}
 use Rattle.rules.proofs.Clean.{each_append, whole-none}
 use Rattle.rules.proofs.Places.{passes_at, verdict-passes}
 use Rattle.rules.proofs.Single.{no_fork_met}
-use Rattle.checks.specs.declared.Verdict.{Verdict}
-use Rattle.checks.specs.Verdict.{refused_by, judged, text_checks}
+use Rattle.checks.specs.Verdict.{Verdict, accepted, refused_by, judged, text_checks}
 use Rattle.judge.specs.Texts.{Lent, work_areas, too_short_of, Judged}
 use Rattle.judge.proofs.Texts.{Passes, Long, long-areas, accepted-passes}
 use Rattle.response.specs.Calls.{areas_of, any_short}
@@ -51,7 +50,7 @@ module _ (w : Lent) (m : List ℕ) where
 
 -- ---- from a verdict to the checks
 
-module _ (x : Texts) (before after : Lent) (v : Verdict) (j : Judged x before after v) (z : v.number ≡ 0) where
+module _ (x : Texts) (before after : Lent) (v : Verdict) (j : Judged x before after v) (z : v ≡ accepted) where
   -- 40 is never offended: 25 and 26 are passed
   pub passed-all : Passed (checks (too_short_of before) x)
   unfolding text_checks
@@ -67,10 +66,10 @@ module _ (x : Texts) (before after : Lent) (v : Verdict) (j : Judged x before af
 
 -- ---- and back
 
-pub judged-none : (short : Bool) (x : Texts) → Passed (checks short x) → judged (text_checks short x) ≡ refused_by 0 (spot 0 0)
+pub judged-none : (short : Bool) (x : Texts) → Passed (checks short x) → judged (text_checks short x) ≡ accepted
 unfolding judged text_checks
 judged-none short x p =
-    verdict-passes refused_by (refused_by 0 (spot 0 0)) (text_checks short x)
+    verdict-passes refused_by accepted (text_checks short x)
     (p 2
     then p 10 then p 11 then p 12 then p 13 then p 14 then p 15 then p 16
     then p 20 then p 21 then p 22 then p 23 then p 24 then p 25 then p 26 then p 27

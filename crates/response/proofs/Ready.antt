@@ -30,11 +30,11 @@ use Rattle.graph.specs.Faults.{nodes_at}
 use Rattle.query.specs.Entries.{QueryHeld, entries_at}
 use Rattle.search.specs.Search.{areas, GraphReady}
 use Rattle.search.proofs.Asking.{nodes_read, properties-read}
-use Rattle.checks.specs.declared.Verdict.{Verdict}
 use Rattle.checks.proofs.Entering.{QueryFormed, query-formed, query-entries, query-entries_same, query-held}
 use Rattle.checks.proofs.Fitting.{schema-fits, members_sound, graph-fits, query-fits}
 use Rattle.checks.proofs.SchemaJudging.{area_ready}
 use Rattle.graph_text.proofs.GraphJudging.{Laid, laid-ready}
+use Rattle.checks.specs.Verdict.{Verdict, accepted}
 use Rattle.judge.specs.Texts.{Lent, too_short_of, Holding, Judged}
 use Rattle.judge.proofs.Texts.{Long}
 use Rattle.judge.proofs.World.{schema-read, graph-read, world-read}
@@ -82,7 +82,7 @@ entries-low i (r ∷ rs) h = (asks-low r h.0, entries-low (suc i) rs h.1)
 
 -- ---- the areas
 
-module _ (x : Texts) (before after : Lent) (v : Verdict) (j : Judged x before after v) (z : v.number ≡ 0) where
+module _ (x : Texts) (before after : Lent) (v : Verdict) (j : Judged x before after v) (z : v ≡ accepted) where
   abbrev vs : List ℕ
   vs = take 8200 after.values
 

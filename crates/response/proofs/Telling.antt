@@ -4,7 +4,8 @@ use native.Mathlib.Omega.{arith}
 use mathlib.Core.Path.{◌≡◌, refl, sym, ap, ◌∙◌, subst}
 use mathlib.Core.Bool.{Bool, true, false}
 use mathlib.Core.List.{List, [], ◌∷◌, ◌++◌}
-use mathlib.Core.Option.{Option, none, some}
+use Rattle.std.specs.Prelude.{Option, None, Some, Err}
+use Rattle.rules.specs.declared.Refusal.{Refusal}
 use lib.Dec.{leb}
 use lib.ListN.{length, take, drop}
 use borrow.Author.Tests.{lt-ltb, le-ltb, leb-true, leb-false, le-leb, lt-leb}
@@ -18,12 +19,11 @@ use Rattle.rules.specs.Answer.{Numbered, checks, eval_checks, verdict, outcome, 
 use Rattle.rules.specs.Contract.{Passed}
 use Rattle.rules.specs.declared.Spot.{Spot}
 use Rattle.rules.specs.declared.Outcome.{Outcome}
-use Rattle.rules.proofs.Clean.{whole-none}
+use Rattle.rules.proofs.Clean.{Each, whole-none}
 use Rattle.rules.proofs.Places.{passed-accepts}
 use Rattle.rules.proofs.Outcomes.{checks_rise, sized-passed, accepted_exactly, answered-by_sizing, answered_too_large_room}
-use Rattle.checks.specs.declared.Verdict.{Verdict}
-use Rattle.checks.specs.Verdict.{judged, text_checks, refused_by as judgedBy}
-use Rattle.checks.proofs.Judging.{judged-at, judged-past}
+use Rattle.checks.specs.Verdict.{Verdict, accepted, judged, text_checks}
+use Rattle.checks.proofs.Judging.{refusal, refused_as, judged-at, judged-past, judged-none as no-checks}
 use Rattle.query.specs.Entries.{entries_at}
 use Rattle.judge.specs.Texts.{Lent, too_short_of, Judged}
 use Rattle.judge.proofs.Texts.{Long, long-areas}
@@ -80,27 +80,93 @@ unwritten (suc n) r buffer h = refl
 
 -- ---- a refusal by the checks of the texts decides
 
-verdict-past : (t : Outcome) (c : Numbered) (cs : List Numbered) → c.place ≡ none → verdict refused t (c ∷ cs) ≡ verdict refused t cs
+verdict-past : (t : Outcome) (c : Numbered) (cs : List Numbered) → c.place ≡ None → verdict refused t (c ∷ cs) ≡ verdict refused t cs
 verdict-past t c cs e = rw (e, verdict)
 
-verdict-at : (t : Outcome) (c : Numbered) (cs : List Numbered) (p : Spot) → c.place ≡ some p
+verdict-at : (t : Outcome) (c : Numbered) (cs : List Numbered) (p : Spot) → c.place ≡ Some p
     → verdict refused t (c ∷ cs) ≡ refused c.number p
 verdict-at t c cs p e = rw (e, verdict)
 
-abbrev refused_as : Verdict → Outcome
-refused_as v = refused v.number v.spot
+abbrev shown_as : Refusal → Outcome
+shown_as r = refused r.number r.spot
 
-refused-front : (t : Outcome) (cs ds : List Numbered) → ((judged cs).number ≡ 0 → ⊥) → verdict refused t (cs ++ ds) ≡ refused_as (judged cs)
-unfolding judged judgedBy
-refused-front t [] ds h = absurd (h refl)
-refused-front t (c ∷ cs) ds h = go (λ k. refused-front t cs ds k) c.place refl
+refused-front : (t : Outcome) (cs ds : List Numbered) (r : Refusal) → judged cs ≡ Err r → verdict refused t (cs ++ ds) ≡ shown_as r
+refused-front t [] ds r h = absurd (refusal (sym h ∙ no-checks))
+refused-front t (c ∷ cs) ds r h = go (λ k. refused-front t cs ds r k) c.place refl
   where
-    go : (((judged cs).number ≡ 0 → ⊥) → verdict refused t (cs ++ ds) ≡ refused_as (judged cs)) → (o : Option Spot) → c.place ≡ o
-        → verdict refused t (c ∷ (cs ++ ds)) ≡ refused_as (judged (c ∷ cs))
-    go ih none e =
-        let past = judged-past c.number c.place cs e in
-        verdict-past t c (cs ++ ds) e ∙ ih (λ k. h (ap (λ (v : Verdict). v.number) past ∙ k)) ∙ ap refused_as (sym past)
-    go ih (some p) e = verdict-at t c (cs ++ ds) p e ∙ ap refused_as (sym (judged-at c.number c.place cs p e))
+    go : (judged cs ≡ Err r → verdict refused t (cs ++ ds) ≡ shown_as r) → (o : Option Spot) → c.place ≡ o
+        → verdict refused t (c ∷ (cs ++ ds)) ≡ shown_as r
+    go ih None e = verdict-past t c (cs ++ ds) e ∙ ih (sym (judged-past c.number c.place cs e) ∙ h)
+    go ih (Some p) e =
+        verdict-at t c (cs ++ ds) p e ∙ ap shown_as (refused_as c.number p r (sym (judged-at c.number c.place cs p e) ∙ h))
+
+-- ---- no check has the number 0
+
+abbrev Positive : Numbered → Type 0
+Positive c = 0 < c.number
+
+numbered : (cs : List Numbered) (r : Refusal) → Each Positive cs → judged cs ≡ Err r → 0 < r.number
+numbered [] r p h = absurd (refusal (sym h ∙ no-checks))
+numbered (c ∷ cs) r p h = go (λ k. numbered cs r p.1 k) c.place refl
+  where
+    go : (judged cs ≡ Err r → 0 < r.number) → (o : Option Spot) → c.place ≡ o → 0 < r.number
+    go ih None e = ih (sym (judged-past c.number c.place cs e) ∙ h)
+    go ih (Some s) e =
+        let said = refused_as c.number s r (sym (judged-at c.number c.place cs s e) ∙ h) in
+        omega (arith, p.0, ap (λ (q : Refusal). q.number) said)
+
+-- the numbers of the checks of the texts
+numbers : (short : Bool) (x : Texts) → Each Positive (text_checks short x)
+unfolding text_checks
+numbers short x = (
+  omega arith,
+  (
+    omega arith,
+    (
+      omega arith,
+      (
+        omega arith,
+        (
+          omega arith,
+          (
+            omega arith,
+            (
+              omega arith,
+              (
+                omega arith,
+                (
+                  omega arith,
+                  (
+                    omega arith,
+                    (
+                      omega arith,
+                      (
+                        omega arith,
+                        (
+                          omega arith,
+                          (
+                            omega arith,
+                            (
+                              omega arith,
+                              (
+                                omega arith,
+                                (omega arith, (omega arith, (omega arith, (omega arith, (omega arith, tt))))),
+                              ),
+                            ),
+                          ),
+                        ),
+                      ),
+                    ),
+                  ),
+                ),
+              ),
+            ),
+          ),
+        ),
+      ),
+    ),
+  ),
+)
 
 -- ---- sizing
 
@@ -126,19 +192,19 @@ module _ (x : Texts) (before after : Lent) (m : List ℕ) (o : Outcome) where
     same-sized = ap (λ (b : Bool). sized b x) (rows_long before m long)
 
     -- a refusal of the texts
-    pub measured-refused : (v.number ≡ 0 → ⊥) → o ≡ outcome v.number v.spot.line 0 0 → Measured x before after m o
+    pub measured-refused : (r : Refusal) → v ≡ Err r → o ≡ shown_as r → Measured x before after m o
     unfolding text_checks
-    measured-refused h e =
+    measured-refused r h e =
         let cs = text_checks (too_short_of before) x in
-        let first : sized (too_short_of before) x ≡ refused_as (judged cs) =
-        refused-front (told x) cs (eval_checks x) (λ k. h (ap (λ (u : Verdict). u.number) j.is ∙ k)) in
+        let said : judged cs ≡ Err r = sym j.is ∙ h in
+        let first : sized (too_short_of before) x ≡ shown_as r = refused-front (told x) cs (eval_checks x) r said in
         record {
-          is = e ∙ ap refused_as j.is ∙ sym (same-sized ∙ first);
-          held = λ z. absurd (h (ap (λ (u : Outcome). u.number) (sym e) ∙ z));
+          is = e ∙ sym (same-sized ∙ first);
+          held = λ z. absurd (omega (arith, numbered cs r (numbers (too_short_of before) x) said, ap (λ (u : Outcome). u.number) (sym e) ∙ z));
         }
 
     -- what the sizing of the tables gives
-    module _ (z : v.number ≡ 0) where
+    module _ (z : v ≡ accepted) where
       abbrev ready : Readable x after
       ready = readable x before after v j z
 
@@ -153,10 +219,10 @@ module _ (x : Texts) (before after : Lent) (m : List ℕ) (o : Outcome) where
       unfolding measured
       measured-told t s e =
           let p = passed-all x before after v j z in
-          let accepted : sized (too_short_of before) x ≡ told x =
+          let passing : sized (too_short_of before) x ≡ told x =
           passed-accepts refused (told x) 0 (checks (too_short_of before) x) (checks_rise (too_short_of before) x) p in
           record {
-            is = e ∙ ap (λ (u : Tally). outcome 0 0 u.size u.visits) (s ∙ tallied) ∙ sym (same-sized ∙ accepted);
+            is = e ∙ ap (λ (u : Tally). outcome 0 0 u.size u.visits) (s ∙ tallied) ∙ sym (same-sized ∙ passing);
             held = λ _. j.held z;
           }
 
@@ -197,12 +263,12 @@ module _ (x : Texts) (before after : Lent) (m : List ℕ) (s : Outcome) (measure
     within : (limited_in room buffer s).number ≡ 0
     within = ap (λ (u : Outcome). u.number) (sym limits) ∙ z
 
-    accepted : s.number ≡ 0
-    accepted = ap (λ (u : Outcome). u.number) (within_same room buffer s within) ∙ within
+    sized-accepted : s.number ≡ 0
+    sized-accepted = ap (λ (u : Outcome). u.number) (within_same room buffer s within) ∙ within
 
     passed : Passed (checks (any_short before m) x)
     unfolding sized_in
-    passed = (accepted_exactly (any_short before m) x).0 (ap (λ (u : Outcome). u.number) (sym measures.is) ∙ accepted)
+    passed = (accepted_exactly (any_short before m) x).0 (ap (λ (u : Outcome). u.number) (sym measures.is) ∙ sized-accepted)
 
     none-short : any_short before m ≡ false
     none-short = whole-none (any_short before m) (passed 2)
@@ -212,15 +278,14 @@ module _ (x : Texts) (before after : Lent) (m : List ℕ) (s : Outcome) (measure
     still_long = long-areas before (texts-long before m none-short)
 
     pub still_readable : Readable x after
-    unfolding judgedBy
     still_readable =
         let same : any_short before m ≡ too_short_of before = none-short ∙ sym (texts-long before m none-short) in
-        let j : Judged x before after (judgedBy 0 (spot 0 0)) =
+        let j : Judged x before after accepted =
         record {
           is = sym (judged-none (too_short_of before) x (subst (λ (b : Bool). Passed (checks b x)) same passed));
-          held = λ _. measures.held accepted;
+          held = λ _. measures.held sized-accepted;
         } in
-        readable x before after (judgedBy 0 (spot 0 0)) j refl
+        readable x before after accepted j refl
 
     -- the response is as long as the size says, for the room is below the cap
     response-fits : length (response x) ≤ length buffer

@@ -7,43 +7,40 @@ ghost use Rattle.rules.specs.Answer.{space};
 ghost use Rattle.judge.specs.Texts.{texts, lent};
 ghost use Rattle.response.specs.Calls.{limited_in, refused_by, Measured, Responded};
 
-use rules::Outcome;
+// The areas are lent one by one, as C lends them; what reads them together takes them as one (`WorldTables`).
+use query::QueryTable;
+use rules::{Outcome, Refusal, Spot};
+use world::WorldTables;
 
 // A refusal at place 0.
 fn refuse(number: u32) -> Outcome
     ensures { result ≡ refused_by number }
 {
-    Outcome {
+    Outcome::from(Refusal {
         number,
-        place: 0,
-        size: 0,
-        visits: 0,
-    }
+        spot: Spot { line: 0, field: 0 },
+    })
 }
 
 // Whether a size fits the room, the smaller of the number given and the response buffer's length.
 fn fits(size: u32, room: u32, out: &[u32]) -> bool
     ensures { result ≡ leb size (space room out.now) }
 {
-    if room < size {
-        return false;
-    }
-    size as usize <= out.len()
+    size <= room && size as usize <= out.len()
 }
 
 // The outcome of answering, by that of sizing: a size that does not fit is 50.
 fn limit(o: Outcome, room: u32, out: &[u32]) -> Outcome
     ensures { result ≡ limited_in room out.now o }
 {
-    if !fits(o.size, room, out) {
-        return Outcome {
-            number: 50,
-            place: 0,
-            size: o.size,
-            visits: o.visits,
-        };
+    if fits(o.size, room, out) {
+        return o;
     }
-    o
+    Outcome {
+        number: 50,
+        place: 0,
+        ..o
+    }
 }
 
 // The outcome of sizing. The areas are left as they are: where it is accepted, they hold the tables.
@@ -64,16 +61,18 @@ pub fn measure(
     if m.len() < 8192 {
         return refuse(2);
     }
-    let b = judge::judge(schema, graph, query, a, g, p, v, ix, q);
-    if b.number != 0 {
-        return Outcome {
-            number: b.number,
-            place: b.spot.line,
-            size: 0,
-            visits: 0,
-        };
+    if let Err(refusal) = judge::judge(schema, graph, query, a, g, p, v, ix, q) {
+        return Outcome::from(refusal);
     }
-    let t = sizing::size_query(a, g, p, &v[..8200], ix, q, m);
+    let values = &v[..8200];
+    let world = WorldTables {
+        schema: a,
+        nodes: g,
+        properties: p,
+        values,
+        index: ix,
+    };
+    let t = sizing::size_query(&world, &QueryTable { area: q }, m);
     Outcome {
         number: 0,
         place: 0,
@@ -108,7 +107,15 @@ pub fn respond(
     if o.number != 0 {
         return o;
     }
-    let root = world::query_node(a, g);
-    evaluate::selection(a, g, p, &v[..8200], ix, q, 0, 0, root, out, 0);
+    let values = &v[..8200];
+    let world = WorldTables {
+        schema: a,
+        nodes: g,
+        properties: p,
+        values,
+        index: ix,
+    };
+    let root = world.query_node();
+    evaluate::selection(&world, &QueryTable { area: q }, 0, 0, root, out, 0);
     o
 }

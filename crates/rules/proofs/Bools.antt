@@ -1,7 +1,7 @@
 -- Tests that are joined by &&, || and not; options. Assumes nothing.
 use mathlib.Core.Path.{◌≡◌, refl, sym, subst}
 use mathlib.Core.Bool.{Bool, true, false, ◌&&◌, ◌||◌, true≢false, false≢true}
-use mathlib.Core.Option.{Option, none, some}
+use Rattle.std.specs.Prelude.{Option, None, Some}
 
 pub or_left : (a b : Bool) → (a || b) ≡ false → a ≡ false
 or_left true b h = h
@@ -33,8 +33,12 @@ pub clash : {b : Bool} → b ≡ true → b ≡ false → ⊥
 clash {b} p q = true≢false (rw p at q)
 
 abbrev Nothing : {A : Type 0} → Option A → Type 0
-Nothing none = Unit {0}
-Nothing (some a) = ⊥
+Nothing None = Unit {0}
+Nothing (Some a) = ⊥
 
-pub some-none : {A : Type 0} {a : A} → Path (Option A) (some a) none → ⊥
+pub some-none : {A : Type 0} {a : A} → Path (Option A) (Some a) None → ⊥
 some-none {A} p = subst Nothing (sym p) tt
+
+-- two options with a value are equal only where the values are
+pub some-same : {A : Type 0} (x y : A) → Path (Option A) (Some x) (Some y) → x ≡ y
+some-same x y h = cc

@@ -3,7 +3,7 @@ use Prim.Native.Nat.{ℕ, zero, suc, ◌+◌}
 use mathlib.Core.Path.{◌≡◌, refl}
 use mathlib.Core.Bool.{Bool, true, false, false≢true}
 use mathlib.Core.List.{List, [], ◌∷◌, ◌++◌}
-use mathlib.Core.Option.{Option, none, some}
+use Rattle.std.specs.Prelude.{Option, None, Some}
 use lib.ListN.{drop}
 use Rattle.rules.specs.Lists.{those, keep_if}
 pub use Rattle.rules.specs.Lists.{Each}
@@ -13,17 +13,17 @@ use Rattle.rules.proofs.Bools.{some-none}
 
 -- ---- the tests of one line
 
-pub worse_left : (a b : Option ℕ) → worse a b ≡ none → a ≡ none
-worse_left none b h = refl
-worse_left (some f) none h = h
-worse_left (some f) (some g) h = absurd (some-none h)
+pub worse_left : (a b : Option ℕ) → worse a b ≡ None → a ≡ None
+worse_left None b h = refl
+worse_left (Some f) None h = h
+worse_left (Some f) (Some g) h = absurd (some-none h)
 
-pub worse_right : (a b : Option ℕ) → worse a b ≡ none → b ≡ none
-worse_right none b h = h
-worse_right (some f) none h = refl
-worse_right (some f) (some g) h = absurd (some-none h)
+pub worse_right : (a b : Option ℕ) → worse a b ≡ None → b ≡ None
+worse_right None b h = h
+worse_right (Some f) None h = refl
+worse_right (Some f) (Some g) h = absurd (some-none h)
 
-not-broken : (b : Bool) (f : ℕ) → fault_if b f ≡ none → b ≡ false
+not-broken : (b : Bool) (f : ℕ) → fault_if b f ≡ None → b ≡ false
 not-broken true f h = absurd (some-none h)
 not-broken false f h = refl
 
@@ -32,14 +32,14 @@ abbrev pub Silent : List Test → Type 0
 Silent [] = Unit {0}
 Silent (t ∷ ts) = (t.broken ≡ false) × Silent ts
 
-pub silent : (ts : List Test) → fault_of ts ≡ none → Silent ts
+pub silent : (ts : List Test) → fault_of ts ≡ None → Silent ts
 silent [] h = tt
 silent (t ∷ ts) h = (
   not-broken t.broken t.field (worse_left (fault_if t.broken t.field) (fault_of ts) h),
   silent ts (worse_right (fault_if t.broken t.field) (fault_of ts) h),
 )
 
-pub from-silent : (ts : List Test) → Silent ts → fault_of ts ≡ none
+pub from-silent : (ts : List Test) → Silent ts → fault_of ts ≡ None
 from-silent [] s = refl
 from-silent (t ∷ ts) s = rw (s.0, fault_if) (from-silent ts s.1)
 
@@ -62,24 +62,24 @@ Calm [] = Unit {0}
 Calm (g ∷ gs) = (g.applies ≡ true → Silent g.tests) × Calm gs
 
 abbrev group_fault : Bool → List Test → Option ℕ
-group_fault b ts = elim b [ true ↦ fault_of ts | false ↦ none ]
+group_fault b ts = elim b [ true ↦ fault_of ts | false ↦ None ]
 
-quiet : (b : Bool) (ts : List Test) → group_fault b ts ≡ none → b ≡ true → Silent ts
+quiet : (b : Bool) (ts : List Test) → group_fault b ts ≡ None → b ≡ true → Silent ts
 quiet true ts h t = silent ts h
 quiet false ts h t = absurd (false≢true t)
 
-from-quiet : (b : Bool) (ts : List Test) → (b ≡ true → Silent ts) → group_fault b ts ≡ none
+from-quiet : (b : Bool) (ts : List Test) → (b ≡ true → Silent ts) → group_fault b ts ≡ None
 from-quiet true ts q = from-silent ts (q refl)
 from-quiet false ts q = refl
 
-pub calm : (gs : List Tests) → fault gs ≡ none → Calm gs
+pub calm : (gs : List Tests) → fault gs ≡ None → Calm gs
 calm [] h = tt
 calm (g ∷ gs) h = (
   quiet g.applies g.tests (worse_left (group_fault g.applies g.tests) (fault gs) h),
   calm gs (worse_right (group_fault g.applies g.tests) (fault gs) h),
 )
 
-pub from-calm : (gs : List Tests) → Calm gs → fault gs ≡ none
+pub from-calm : (gs : List Tests) → Calm gs → fault gs ≡ None
 from-calm [] c = refl
 from-calm (g ∷ gs) c = rw (from-quiet g.applies g.tests c.0) (from-calm gs c.1)
 
@@ -120,16 +120,16 @@ module _ {A : Type 0} where
   Clean check before [] = Unit {0}
   Clean check before (r ∷ rs) = Calm (check before r rs) × Clean check (r ∷ before) rs
 
-  pub clean : (check : Check A) (before : List A) (n : ℕ) (rs : List A) → first_from check before n rs ≡ none → Clean check before rs
+  pub clean : (check : Check A) (before : List A) (n : ℕ) (rs : List A) → first_from check before n rs ≡ None → Clean check before rs
   clean check before n [] h = tt
   clean check before n (r ∷ rs) h = go (λ k. clean check (r ∷ before) (suc n) rs k) (fault (check before r rs)) refl
     where
-      go : (first_from check (r ∷ before) (suc n) rs ≡ none → Clean check (r ∷ before) rs) → (o : Option ℕ)
+      go : (first_from check (r ∷ before) (suc n) rs ≡ None → Clean check (r ∷ before) rs) → (o : Option ℕ)
           → fault (check before r rs) ≡ o → Calm (check before r rs) × Clean check (r ∷ before) rs
-      go ih none e = (calm (check before r rs) e, ih (rw (e, first_from) at h))
-      go ih (some f) e = absurd (some-none (rw (e, first_from) at h))
+      go ih None e = (calm (check before r rs) e, ih (rw (e, first_from) at h))
+      go ih (Some f) e = absurd (some-none (rw (e, first_from) at h))
 
-  pub from-clean : (check : Check A) (before : List A) (n : ℕ) (rs : List A) → Clean check before rs → first_from check before n rs ≡ none
+  pub from-clean : (check : Check A) (before : List A) (n : ℕ) (rs : List A) → Clean check before rs → first_from check before n rs ≡ None
   from-clean check before n [] c = refl
   from-clean check before n (r ∷ rs) c =
       rw (from-calm (check before r rs) c.0, first_from) (from-clean check (r ∷ before) (suc n) rs c.1)
@@ -141,10 +141,10 @@ module _ {A : Type 0} where
 
 -- ---- whole texts
 
-pub whole-none : (b : Bool) → whole b ≡ none → b ≡ false
+pub whole-none : (b : Bool) → whole b ≡ None → b ≡ false
 whole-none true h = absurd (some-none h)
 whole-none false h = refl
 
-pub or_else_none : (a b : Option Spot) → or_else a b ≡ none → b ≡ none
-or_else_none none b h = h
-or_else_none (some p) b h = absurd (some-none h)
+pub or_else_none : (a b : Option Spot) → or_else a b ≡ None → b ≡ None
+or_else_none None b h = h
+or_else_none (Some p) b h = absurd (some-none h)

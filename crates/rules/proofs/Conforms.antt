@@ -6,7 +6,7 @@ use mathlib.Core.Path.{◌≡◌, refl, sym, ap, ap₂, ◌∙◌, subst}
 use mathlib.Core.Logic.{◌⊎◌, inl, inr, ◌↔◌}
 use mathlib.Core.Bool.{Bool, true, false, ◌&&◌, not, beq, true≢false}
 use mathlib.Core.List.{List, [], ◌∷◌}
-use mathlib.Core.Option.{none}
+use Rattle.std.specs.Prelude.{None}
 use lib.Dec.{eqb}
 use borrow.Author.Tests.{eq-eqb, ne_eqb, eqb-true, lt-ltb, le-ltb, le-leb, lt-leb, not-false, not-true}
 use Rattle.rules.specs.Lists.{all}
@@ -40,7 +40,7 @@ row-known r h = go (eqb r.letter F) (eqb r.letter T) refl refl
     go false true p q = inr q
     go false false p q = absurd (true≢false (rw (p, q, form_tests) at h).0)
 
-pub query-known : (s : List ℕ) → text_form query_forms s ≡ none → Each Known (rows s)
+pub query-known : (s : List ℕ) → text_form query_forms s ≡ None → Each Known (rows s)
 query-known s h = rows-each query_forms Known (λ l k. row-known _ k.formed) s h
 
 -- ---- children
@@ -240,7 +240,7 @@ module _ (s : Schema) where
       (valid-calm before r rs known.0 (sym (same_here before r rs i) ∙ v.0), from-valid (r ∷ before) rs (suc i) (suc (depth r)) known.1 st.1 v.1)
 
   -- Once the depths step (32), check 34 passes exactly when the query conforms to the schema in the context of the query type.
-  pub conforms : (q : List Row) → Each Known q → Steps 0 (entries q) → (first_line (check34 s) q ≡ none) ↔ (valid k (query_type s) (tree q) ≡ true)
+  pub conforms : (q : List Row) → Each Known q → Steps 0 (entries q) → (first_line (check34 s) q ≡ None) ↔ (valid k (query_type s) (tree q) ≡ true)
   conforms q known st = (
     λ h. to-valid [] q 0 0 known (clean (check34 s) [] 1 q h) 0 (omega arith),
     λ v. from-clean (check34 s) [] 1 q (from-valid [] q 0 0 known st (only v)),

@@ -4,7 +4,7 @@ use native.Mathlib.Omega.{arith}
 use mathlib.Core.Path.{◌≡◌, refl}
 use mathlib.Core.Bool.{Bool, true, false, not}
 use mathlib.Core.List.{List, [], ◌∷◌, map}
-use mathlib.Core.Option.{none}
+use Rattle.std.specs.Prelude.{None}
 use lib.Dec.{eqb}
 use lib.ListN.{length, get_or}
 use borrow.Author.Tests.{ltb-true, ltb-false, eqb-true, not-false}
@@ -45,7 +45,7 @@ targets_below n u l (r ∷ rs) c = go (targets_below n u l rs c.1) (edge_of u l 
     go ih true e = (c.0 (and-true_left (is E r) (starts u l r) e), ih)
     go ih false e = ih
 
-pub edges_lead_to_nodes : (s : Schema) (rs : List Row) → first_line (check22 s (graph_of rs)) rs ≡ none → Closed (world s (graph_of rs))
+pub edges_lead_to_nodes : (s : Schema) (rs : List Row) → first_line (check22 s (graph_of rs)) rs ≡ None → Closed (world s (graph_of rs))
 unfolding ToNode
 edges_lead_to_nodes s rs h =
     let g = graph_of rs in
@@ -65,7 +65,7 @@ first_below p i (suc n) d h = go (λ k. first_below p (suc i) n d k) (p i) refl
     go ih true e = rw (e, keep_if) (omega arith)
     go ih false e = rw (e, keep_if) (omega (arith, ih (rw (e, keep_if) at h)))
 
-pub query-node_is_node : (s : Schema) (g : Graph) → check27 s g ≡ none → query_node s g < g.size
+pub query-node_is_node : (s : Schema) (g : Graph) → check27 s g ≡ None → query_node s g < g.size
 query-node_is_node s g h =
     let k = length (nodes_of g (query_type s)) in
     let one : k ≡ 1 = eqb-true k 1 (not-false (eqb k 1) (whole-none (not (eqb k 1)) h)) in
@@ -79,7 +79,7 @@ steps-from before [] i c = tt
 steps-from before (r ∷ rs) i c =
     (ltb-false (deepest before) (depth r) (c.0.0 refl).0, steps-from (r ∷ before) rs (suc i) c.1)
 
-pub depths_step : (q : List Row) → check32 q ≡ none → Steps 0 (entries q)
+pub depths_step : (q : List Row) → check32 q ≡ None → Steps 0 (entries q)
 depths_step q h = steps-from [] q 0 (clean steps [] 1 q (or_else_none (whole (is_empty q)) (first_line steps q) h))
 
 -- ---- all of them, for texts that pass

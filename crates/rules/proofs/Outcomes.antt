@@ -6,7 +6,7 @@ use mathlib.Core.Path.{◌≡◌, refl, sym, ap, ◌∙◌, subst}
 use mathlib.Core.Logic.{◌↔◌, ◌≢◌}
 use mathlib.Core.Bool.{Bool, false}
 use mathlib.Core.List.{List, [], ◌∷◌}
-use mathlib.Core.Option.{Option, none, some}
+use Rattle.std.specs.Prelude.{Option, None, Some}
 use lib.Dec.{ltb}
 use lib.ListN.{length}
 use borrow.Author.Tests.{ltb-false, lt-ltb, le-ltb}
@@ -95,7 +95,7 @@ module _ (short : Bool) (x : Texts) where
   pub never_40 : (sized short x).number ≢ 40
   never_40 h =
       let r = refused_exactly 40 (omega arith) h in
-      let less : (m : ℕ) → m < 40 → place_of m (checks short x) ≡ none = r.1.none_less in
+      let less : (m : ℕ) → m < 40 → place_of m (checks short x) ≡ None = r.1.none_less in
       let met = no_fork_met (schema_in x) (graph_rows x) (less 25 (omega arith)) (less 26 (omega arith)) (tree_of x) (root_of x) in
       some-none (sym r.1.offended ∙ ap whole met)
 
@@ -181,7 +181,7 @@ module _ (short : Bool) (x : Texts) (room : ℕ) (buffer : List ℕ) where
       go h (overflows p l e) = (p, l)
       go h (refuses n p l above e) =
           let fifty : n ≡ 50 = sym (ap (λ (o : Outcome). o.number) e) ∙ h in
-          absurd (some-none (sym (subst (λ (k : ℕ). place_of k (answer_checks short x room) ≡ some p) fifty l.offended)))
+          absurd (some-none (sym (subst (λ (k : ℕ). place_of k (answer_checks short x room) ≡ Some p) fifty l.offended)))
 
   -- ---- by sizing: what the code does
 
@@ -194,8 +194,8 @@ module _ (short : Bool) (x : Texts) (room : ℕ) (buffer : List ℕ) where
     where
       go : verdict refused (fitted k o) cs ≡ fitted k (verdict refused o cs) → (q : Option Spot) → c.place ≡ q
           → verdict refused (fitted k o) (c ∷ cs) ≡ fitted k (verdict refused o (c ∷ cs))
-      go ih none e = rw (e, verdict) ih
-      go ih (some p) e = rw (e, verdict) (refused-fits k c.number p)
+      go ih None e = rw (e, verdict) ih
+      go ih (Some p) e = rw (e, verdict) (refused-fits k c.number p)
 
   -- A room that is not above 16,384 is answered by the outcome of sizing, held against the room.
   pub answered-by_sizing : room ≤ largest_room → answered short x room buffer ≡ fitted (space room buffer) (sized short x)

@@ -6,7 +6,7 @@ use mathlib.Core.Path.{◌≡◌, refl, sym, ap, ap₂, ◌∙◌}
 use mathlib.Core.Logic.{◌↔◌}
 use mathlib.Core.Bool.{Bool, true, false, ◌&&◌}
 use mathlib.Core.List.{List, [], ◌∷◌, reverse_aux}
-use mathlib.Core.Option.{Option, none, some, some-injective}
+use Rattle.std.specs.Prelude.{Option, None, Some}
 use lib.Dec.{eqb, ltb}
 use lib.ListN.{take, drop}
 use borrow.Author.Tests.{eq-eqb, ne_eqb, eqb-true, ltb-true}
@@ -14,7 +14,7 @@ use Rattle.rules.specs.Search.{Check, fault, first_from, first_line, spot}
 use Rattle.rules.specs.Answer.{Numbered, verdict}
 use Rattle.rules.specs.Contract.{fault_in, fault_at, FirstLine, place_of, Passed, Least}
 use Rattle.rules.specs.declared.Spot.{Spot}
-use Rattle.rules.proofs.Bools.{some-none, and-true_left, and-true_right}
+use Rattle.rules.proofs.Bools.{some-none, and-true_left, and-true_right, some-same}
 
 -- ---- the place: the first line that offends
 
@@ -27,64 +27,64 @@ module _ {A : Type 0} (check : Check A) where
   record Found (before : List A) (n : ℕ) (rs : List A) (p : Spot) : Type 0 where
     place : ℕ
     line : p.line ≡ n + place
-    offends : from before rs place ≡ some p.field
-    clear : (j : ℕ) → j < place → from before rs j ≡ none
+    offends : from before rs place ≡ Some p.field
+    clear : (j : ℕ) → j < place → from before rs j ≡ None
 
-  found : (before : List A) (n : ℕ) (rs : List A) (p : Spot) → first_from check before n rs ≡ some p → Found before n rs p
+  found : (before : List A) (n : ℕ) (rs : List A) (p : Spot) → first_from check before n rs ≡ Some p → Found before n rs p
   found before n [] p h = absurd (some-none (sym h))
   found before n (r ∷ rs) p h = go (λ k. found (r ∷ before) (suc n) rs p k) (fault (check before r rs)) refl
     where
-      go : (first_from check (r ∷ before) (suc n) rs ≡ some p → Found (r ∷ before) (suc n) rs p)
+      go : (first_from check (r ∷ before) (suc n) rs ≡ Some p → Found (r ∷ before) (suc n) rs p)
           → (o : Option ℕ) → fault (check before r rs) ≡ o → Found before n (r ∷ rs) p
-      go ih none e =
+      go ih None e =
           let f = ih (rw (e, first_from) at h) in
-          let clear : (j : ℕ) → j < suc f.place → from before (r ∷ rs) j ≡ none =
+          let clear : (j : ℕ) → j < suc f.place → from before (r ∷ rs) j ≡ None =
           elim [ zero ↦ λ _. e | suc j ↦ λ k. f.clear j (omega arith) ] in
           record { place = suc f.place; line = omega (arith, f.line); offends = f.offends; clear = clear }
-      go ih (some f) e =
-          let q = some-injective (spot n f) p (rw (e, first_from) at h) in
+      go ih (Some f) e =
+          let q = some-same (spot n f) p (rw (e, first_from) at h) in
           record {
             place = 0;
             line = omega (arith, ap (λ (x : Spot). x.line) q);
-            offends = e ∙ ap (λ (x : Spot). some x.field) q;
+            offends = e ∙ ap (λ (x : Spot). Some x.field) q;
             clear = λ j k. absurd (omega arith);
           }
 
-  finds : (before : List A) (n : ℕ) (rs : List A) (k f : ℕ) → from before rs k ≡ some f → ((j : ℕ) → j < k → from before rs j ≡ none)
-      → first_from check before n rs ≡ some (spot (n + k) f)
+  finds : (before : List A) (n : ℕ) (rs : List A) (k f : ℕ) → from before rs k ≡ Some f → ((j : ℕ) → j < k → from before rs j ≡ None)
+      → first_from check before n rs ≡ Some (spot (n + k) f)
   finds before n [] zero f h c = absurd (some-none (sym h))
   finds before n [] (suc k) f h c = absurd (some-none (sym h))
-  finds before n (r ∷ rs) zero f h c = rw (h, first_from) (ap (λ (x : ℕ). some (spot x f)) (omega arith))
+  finds before n (r ∷ rs) zero f h c = rw (h, first_from) (ap (λ (x : ℕ). Some (spot x f)) (omega arith))
   finds before n (r ∷ rs) (suc k) f h c =
       rw (c 0 (omega arith), first_from)
-      (finds (r ∷ before) (suc n) rs k f h (λ j l. c (suc j) (omega arith)) ∙ ap (λ (x : ℕ). some (spot x f)) (omega arith))
+      (finds (r ∷ before) (suc n) rs k f h (λ j l. c (suc j) (omega arith)) ∙ ap (λ (x : ℕ). Some (spot x f)) (omega arith))
 
-  none_found : (before : List A) (n : ℕ) (rs : List A) → first_from check before n rs ≡ none → (k : ℕ) → from before rs k ≡ none
+  none_found : (before : List A) (n : ℕ) (rs : List A) → first_from check before n rs ≡ None → (k : ℕ) → from before rs k ≡ None
   none_found before n [] h zero = refl
   none_found before n [] h (suc k) = refl
   none_found before n (r ∷ rs) h k = go (λ l. none_found (r ∷ before) (suc n) rs l) (fault (check before r rs)) refl k
     where
-      go : (first_from check (r ∷ before) (suc n) rs ≡ none → (j : ℕ) → from (r ∷ before) rs j ≡ none)
-          → (o : Option ℕ) → fault (check before r rs) ≡ o → (j : ℕ) → from before (r ∷ rs) j ≡ none
-      go ih none e zero = e
-      go ih none e (suc j) = ih (rw (e, first_from) at h) j
-      go ih (some f) e j = absurd (some-none (rw (e, first_from) at h))
+      go : (first_from check (r ∷ before) (suc n) rs ≡ None → (j : ℕ) → from (r ∷ before) rs j ≡ None)
+          → (o : Option ℕ) → fault (check before r rs) ≡ o → (j : ℕ) → from before (r ∷ rs) j ≡ None
+      go ih None e zero = e
+      go ih None e (suc j) = ih (rw (e, first_from) at h) j
+      go ih (Some f) e j = absurd (some-none (rw (e, first_from) at h))
 
-  clear_finds : (before : List A) (n : ℕ) (rs : List A) → ((k : ℕ) → from before rs k ≡ none) → first_from check before n rs ≡ none
+  clear_finds : (before : List A) (n : ℕ) (rs : List A) → ((k : ℕ) → from before rs k ≡ None) → first_from check before n rs ≡ None
   clear_finds before n [] c = refl
   clear_finds before n (r ∷ rs) c = rw (c 0, first_from) (clear_finds (r ∷ before) (suc n) rs (λ k. c (suc k)))
 
   -- The search gives p exactly when p is the first line that offends, with its field;
-  pub place_is_first : (rs : List A) (p : Spot) → (first_line check rs ≡ some p) ↔ FirstLine check rs p
+  pub place_is_first : (rs : List A) (p : Spot) → (first_line check rs ≡ Some p) ↔ FirstLine check rs p
   place_is_first rs p = (
     λ h. let f = found [] 1 rs p h in
         record { before = f.place; line = omega (arith, f.line); offends = f.offends; none_earlier = f.clear },
     λ f. finds [] 1 rs f.before p.field f.offends f.none_earlier
-        ∙ ap (λ (x : ℕ). some (spot x p.field)) (omega (arith, f.line)),
+        ∙ ap (λ (x : ℕ). Some (spot x p.field)) (omega (arith, f.line)),
   )
 
   -- and nothing exactly when no line offends.
-  pub nothing_offends : (rs : List A) → (first_line check rs ≡ none) ↔ ((k : ℕ) → fault_at check rs k ≡ none)
+  pub nothing_offends : (rs : List A) → (first_line check rs ≡ None) ↔ ((k : ℕ) → fault_at check rs k ≡ None)
   nothing_offends rs = (λ h. none_found [] 1 rs h, λ c. clear_finds [] 1 rs c)
 
 -- ---- the number: the least that is offended
@@ -109,12 +109,12 @@ rising k (c ∷ cs) h = (
 -- every check of the list passes
 abbrev pub Passes : List Numbered → Type 0
 Passes [] = Unit {0}
-Passes (c ∷ cs) = (c.place ≡ none) × Passes cs
+Passes (c ∷ cs) = (c.place ≡ None) × Passes cs
 
-place_passes : (c : Numbered) (cs : List Numbered) (m : ℕ) → c.place ≡ none → place_of m cs ≡ none → place_of m (c ∷ cs) ≡ none
+place_passes : (c : Numbered) (cs : List Numbered) (m : ℕ) → c.place ≡ None → place_of m cs ≡ None → place_of m (c ∷ cs) ≡ None
 place_passes c cs m p q = go (eqb c.number m) refl
   where
-    go : (b : Bool) → eqb c.number m ≡ b → place_of m (c ∷ cs) ≡ none
+    go : (b : Bool) → eqb c.number m ≡ b → place_of m (c ∷ cs) ≡ None
     go true e = rw (e, place_of) p
     go false e = rw (e, place_of) q
 
@@ -127,7 +127,7 @@ verdict-passes refuse accepted [] p = refl
 verdict-passes refuse accepted (c ∷ cs) p = rw (p.0, verdict) (verdict-passes refuse accepted cs p.1)
 
 -- a number that is not above k stands in no list whose numbers rise from k
-not_above : (k : ℕ) (cs : List Numbered) → Rises k cs → (m : ℕ) → m ≤ k → place_of m cs ≡ none
+not_above : (k : ℕ) (cs : List Numbered) → Rises k cs → (m : ℕ) → m ≤ k → place_of m cs ≡ None
 not_above k [] r m h = refl
 not_above k (c ∷ cs) r m h =
     rw (ne_eqb c.number m (λ e. omega (arith, r.0)), place_of) (not_above c.number cs r.1 m (omega (arith, r.0)))
@@ -139,7 +139,7 @@ place_later : (c : Numbered) (cs : List Numbered) (n : ℕ) → c.number < n →
 place_later c cs n h = rw (ne_eqb c.number n (λ e. omega arith), place_of)
 
 -- an offended check is above where the numbers begin
-pub offended_above : (k : ℕ) (cs : List Numbered) → Rises k cs → (n : ℕ) (p : Spot) → place_of n cs ≡ some p → k < n
+pub offended_above : (k : ℕ) (cs : List Numbered) → Rises k cs → (n : ℕ) (p : Spot) → place_of n cs ≡ Some p → k < n
 offended_above k cs r n p h = go (dec_lt k n)
   where
     go : Dec (k < n) → k < n
@@ -150,7 +150,7 @@ offended_above k cs r n p h = go (dec_lt k n)
 pub passed-tail : (k : ℕ) (c : Numbered) (cs : List Numbered) → Rises k (c ∷ cs) → Passed (c ∷ cs) → Passed cs
 passed-tail k c cs r h n = go (eqb c.number n) refl
   where
-    go : (b : Bool) → eqb c.number n ≡ b → place_of n cs ≡ none
+    go : (b : Bool) → eqb c.number n ≡ b → place_of n cs ≡ None
     go true e = not_above c.number cs r.1 n (omega (arith, eqb-true c.number n e))
     go false e = rw (e, place_of) at (h n)
 
@@ -168,7 +168,7 @@ least_number cs n m p q a b = go (dec_lt n m) (dec_lt m n)
 
 least_place : (cs : List Numbered) (n m : ℕ) (p q : Spot) → Least cs n p → Least cs m q → p ≡ q
 least_place cs n m p q a b =
-    some-injective p q (sym a.offended ∙ ap (λ (x : ℕ). place_of x cs) (least_number cs n m p q a b) ∙ b.offended)
+    some-same p q (sym a.offended ∙ ap (λ (x : ℕ). place_of x cs) (least_number cs n m p q a b) ∙ b.offended)
 
 -- The verdict: every check passes and it is what an accepted call shows, or one is the least that is offended and it refuses by that.
 pub data Decided {A : Type 0} (refuse : ℕ → Spot → A) (accepted : A) (cs : List Numbered) : Type 0 where
@@ -180,7 +180,7 @@ module _ {A : Type 0} (refuse : ℕ → Spot → A) (accepted : A) where
   decided k [] r = passed tt
   decided k (c ∷ cs) r = go (decided c.number cs r.1) c.place refl
     where
-      later : c.place ≡ none → Decided refuse accepted cs → Decided refuse accepted (c ∷ cs)
+      later : c.place ≡ None → Decided refuse accepted cs → Decided refuse accepted (c ∷ cs)
       later e (passed ps) = passed (e, ps)
       later e (refused n p l v) =
           let above = offended_above c.number cs r.1 n p l.offended in
@@ -189,8 +189,8 @@ module _ {A : Type 0} (refuse : ℕ → Spot → A) (accepted : A) where
           (rw (e, verdict) v)
 
       go : Decided refuse accepted cs → (o : Option Spot) → c.place ≡ o → Decided refuse accepted (c ∷ cs)
-      go ih none e = later e ih
-      go ih (some p) e =
+      go ih None e = later e ih
+      go ih (Some p) e =
           refused c.number p
           (record {
             offended = place_here c cs ∙ e;

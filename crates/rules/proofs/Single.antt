@@ -6,7 +6,7 @@ use mathlib.Core.Logic.{◌⊎◌, inl, inr}
 use mathlib.Core.Bool.{Bool, true, false, ◌&&◌, not}
 use mathlib.Core.List.Memᴰ
 use mathlib.Core.List.{List, [], ◌∷◌, Memᴰ}
-use mathlib.Core.Option.{none}
+use Rattle.std.specs.Prelude.{None}
 use lib.Dec.{eqb}
 use lib.ListN.{length, length-map}
 use borrow.Author.Tests.{eq-eqb, eqb-true, le-ltb, not-false}
@@ -99,7 +99,7 @@ two_targets true plural vs h = refl
 two_targets false true vs h = refl
 two_targets false false vs h = le-ltb 1 (length vs) (h refl)
 
-module _ (s : Schema) (rs : List Row) (c25 : first_line (check25 s (graph_of rs)) rs ≡ none) (c26 : first_line check26 rs ≡ none) where
+module _ (s : Schema) (rs : List Row) (c25 : first_line (check25 s (graph_of rs)) rs ≡ None) (c26 : first_line check26 rs ≡ None) where
   abbrev g : Graph
   g = graph_of rs
 

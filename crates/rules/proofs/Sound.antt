@@ -3,7 +3,7 @@ use Prim.Native.Nat.{ℕ, ◌≤◌}
 use mathlib.Core.Path.{◌≡◌, refl, ap}
 use mathlib.Core.Bool.{Bool, true, false, ◌&&◌, not, true≢false}
 use mathlib.Core.List.{List, [], ◌∷◌, map, tail}
-use mathlib.Core.Option.{none}
+use Rattle.std.specs.Prelude.{None}
 use lib.Dec.{leb, ltb}
 use lib.ListN.{length, length-map}
 use borrow.Author.Tests.{leb-true, not-false}
@@ -86,17 +86,17 @@ pub rows_small : (s : List ℕ) → Each (λ r. Small r.numbers) (rows s)
 rows_small s = each_row (λ r. Small r.numbers) (lines s) (lines_small (lines s))
 
 module _ (fs : List Form) where
-  pub text-sound : (s : List ℕ) → text_form fs s ≡ none → Each (Sound fs) (lines s)
+  pub text-sound : (s : List ℕ) → text_form fs s ≡ None → Each (Sound fs) (lines s)
   text-sound s h =
       clean-each (breaks fs) (Sound fs) (line-sound fs) [] (lines s)
       (clean (breaks fs) [] 1 (lines s) (or_else_none (whole (ltb longest (length s))) (first_line (breaks fs) (lines s)) h))
 
   -- what every sound line gives of its row holds of every row
-  pub rows-each : (P : Row → Type 0) → ((l : Line) → Sound fs l → P (row l)) → (s : List ℕ) → text_form fs s ≡ none → Each P (rows s)
+  pub rows-each : (P : Row → Type 0) → ((l : Line) → Sound fs l → P (row l)) → (s : List ℕ) → text_form fs s ≡ None → Each P (rows s)
   rows-each P f s h = each_row P (lines s) (each_map (Sound fs) (λ l. P (row l)) f (lines s) (text-sound s h))
 
   -- 8: a sound text is its lines, each ended by one newline,
-  pub text-is_lines : (s : List ℕ) → text_form fs s ≡ none → joined (lines s) ≡ s
+  pub text-is_lines : (s : List ℕ) → text_form fs s ≡ None → joined (lines s) ≡ s
   text-is_lines s h = lines-joined s (each_map (Sound fs) (λ l. l.ended ≡ true) (λ l k. k.ended) (lines s) (text-sound s h))
 
 -- and any text has one row for each of its lines

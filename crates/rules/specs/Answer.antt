@@ -1,6 +1,5 @@
 -- What a call returns, and what it leaves in the response buffer and the work areas. Assumes nothing.
-use Rattle.std.specs.Prelude.{ℕ, zero, suc, min, Bool, true, false, List, [], ◌∷◌, ◌++◌, map, ltb, length, drop, replicate}
-use Rattle.std.proofs.Math.Option.{Option, none, some}
+use Rattle.std.specs.Prelude.{ℕ, zero, suc, min, Bool, true, false, List, [], ◌∷◌, ◌++◌, map, ltb, length, drop, replicate, Option, None, Some}
 use Rattle.rules.specs.Lists.{any}
 use Rattle.rules.specs.Text.{Row, rows}
 use Rattle.rules.specs.Search.{first_line, whole}
@@ -124,7 +123,7 @@ answer_checks short x room = 1 by whole (ltb largest_room room) ∷ checks short
 -- The first check that is offended decides; where none is, `accepted` does.
 abbrev pub verdict : {A : Type 0} → (ℕ → Spot → A) → A → List Numbered → A
 verdict refuse accepted [] = accepted
-verdict refuse accepted (c ∷ cs) = elim c.place [ none ↦ verdict refuse accepted cs | some p ↦ refuse c.number p ]
+verdict refuse accepted (c ∷ cs) = elim c.place [ None ↦ verdict refuse accepted cs | Some p ↦ refuse c.number p ]
 
 -- ---- the outcome: "Every call returns number, place, size, visits."
 

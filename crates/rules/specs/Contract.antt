@@ -1,6 +1,5 @@
 -- What a call owes, in 01's words and without saying how it is computed: no two outcomes meet them. Assumes nothing.
-use Rattle.std.specs.Prelude.{ℕ, suc, ◌≤◌, ◌<◌, ◌≡◌, ◌⊎◌, true, false, List, [], ◌∷◌, reverse, eqb, length, get_or, take, drop}
-use Rattle.std.proofs.Math.Option.{Option, none, some}
+use Rattle.std.specs.Prelude.{ℕ, suc, ◌≤◌, ◌<◌, ◌≡◌, ◌⊎◌, true, false, List, [], ◌∷◌, reverse, eqb, length, get_or, take, drop, Option, None, Some}
 use Rattle.rules.specs.Search.{Check, fault}
 use Rattle.rules.specs.Answer.{Texts, response, visits_in, Numbered, checks, answer_checks, Area, too_short}
 use Rattle.rules.specs.declared.Spot.{Spot}
@@ -10,7 +9,7 @@ use Rattle.rules.specs.declared.Outcome.{Outcome}
 
 -- The fault of the line with k lines before it, by what stands before it and behind it; none past the end.
 abbrev pub fault_in : {A : Type 0} → Check A → List A → List A → Option ℕ
-fault_in check before [] = none
+fault_in check before [] = None
 fault_in check before (r ∷ after) = fault (check before r after)
 
 abbrev pub fault_at : {A : Type 0} → Check A → List A → ℕ → Option ℕ
@@ -20,24 +19,24 @@ fault_at check rs k = fault_in check (reverse (take k rs)) (drop k rs)
 pub record FirstLine {A : Type 0} (check : Check A) (rs : List A) (p : Spot) : Type 0 where
   pub before : ℕ
   pub line : p.line ≡ suc before
-  pub offends : fault_at check rs before ≡ some p.field
-  pub none_earlier : (j : ℕ) → j < before → fault_at check rs j ≡ none
+  pub offends : fault_at check rs before ≡ Some p.field
+  pub none_earlier : (j : ℕ) → j < before → fault_at check rs j ≡ None
 
 -- ---- the number of a refusal
 
 -- Where the check with number n is offended.
 abbrev pub place_of : ℕ → List Numbered → Option Spot
-place_of n [] = none
+place_of n [] = None
 place_of n (c ∷ cs) = elim (eqb c.number n) [ true ↦ c.place | false ↦ place_of n cs ]
 
 -- No check of the table is offended.
 abbrev pub Passed : List Numbered → Type 0
-Passed cs = (n : ℕ) → place_of n cs ≡ none
+Passed cs = (n : ℕ) → place_of n cs ≡ None
 
 -- "Checks run in ascending number": the least number that is offended is n, and its place is p.
 pub record Least (cs : List Numbered) (n : ℕ) (p : Spot) : Type 0 where
-  pub offended : place_of n cs ≡ some p
-  pub none_less : (m : ℕ) → m < n → place_of m cs ≡ none
+  pub offended : place_of n cs ≡ Some p
+  pub none_less : (m : ℕ) → m < n → place_of m cs ≡ None
 
 -- ---- what is shown, and what is left
 

@@ -1,6 +1,5 @@
 -- The text form: which letters each text uses, what their numbers must meet, and checks 10, 20 and 30. Assumes nothing.
-use Rattle.std.specs.Prelude.{ℕ, ◌+◌, ◌*◌, Bool, true, false, ◌&&◌, not, List, [], ◌∷◌, ◌++◌, ltb, eqb, length}
-use Rattle.std.proofs.Math.Option.{Option}
+use Rattle.std.specs.Prelude.{ℕ, ◌+◌, ◌*◌, Bool, true, false, ◌&&◌, not, List, [], ◌∷◌, ◌++◌, ltb, eqb, length, Option}
 use Rattle.rules.specs.Text.{Line, lines, fields, is_number, Row, row_of, at, Pair, pairs_of, A, E, F, G, H, I, M, N, O, P, Q, S, T, U}
 use Rattle.rules.specs.Search.{Test, ◌#◌, test_each, given, Check, first_line, whole, or_else}
 use Rattle.rules.specs.declared.Spot.{Spot}

@@ -1,6 +1,5 @@
 -- What a graph says (Definition 2), what its rows say, and checks 21 to 27. Assumes nothing.
-use Rattle.std.specs.Prelude.{ℕ, ◌+◌, ◌*◌, Bool, true, false, ◌&&◌, ◌||◌, not, List, [], ◌∷◌, ◌++◌, map, ltb, eqb, length, get_or}
-use Rattle.std.proofs.Math.Option.{Option}
+use Rattle.std.specs.Prelude.{ℕ, ◌+◌, ◌*◌, Bool, true, false, ◌&&◌, ◌||◌, not, List, [], ◌∷◌, ◌++◌, map, ltb, eqb, length, get_or, Option}
 use Rattle.rules.specs.Lists.{those, any, sum_of, count_up}
 use Rattle.rules.specs.Text.{Row, at, E, N, P, Pair, pairs_of, values_of, field_no, type_no}
 use Rattle.rules.specs.Search.{◌#◌, test_each, given, Check, whole}

@@ -17,3 +17,4 @@ pub mod Spots
 pub mod Doubling
 pub mod Lends
 pub mod Bound
+pub mod Kinds

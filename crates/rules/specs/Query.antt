@@ -1,6 +1,5 @@
 -- The query's rows, and checks 31 to 34. Assumes nothing.
-use Rattle.std.specs.Prelude.{ℕ, suc, Bool, true, false, ◌&&◌, ◌||◌, not, List, [], ◌∷◌, leb, ltb, eqb, length}
-use Rattle.std.proofs.Math.Option.{Option}
+use Rattle.std.specs.Prelude.{ℕ, suc, Bool, true, false, ◌&&◌, ◌||◌, not, List, [], ◌∷◌, leb, ltb, eqb, length, Option}
 use Rattle.rules.specs.Lists.{is_empty}
 use Rattle.rules.specs.Text.{Row, at, F, T, pairs_of, field_no, type_no}
 use Rattle.rules.specs.Search.{◌#◌, test_each, given, Check, first_line, whole, or_else}

@@ -1,6 +1,5 @@
 -- What a schema says (Definition 1), what its rows say, and checks 11 to 16. Assumes nothing.
-use Rattle.std.specs.Prelude.{ℕ, Bool, ◌&&◌, ◌||◌, not, List, [], ◌∷◌, map, leb, ltb, eqb, length, get_or}
-use Rattle.std.proofs.Math.Option.{Option}
+use Rattle.std.specs.Prelude.{ℕ, Bool, ◌&&◌, ◌||◌, not, List, [], ◌∷◌, map, leb, ltb, eqb, length, get_or, Option}
 use Rattle.rules.specs.Lists.{those, any, among}
 use Rattle.rules.specs.Text.{Row, no_row, at, A, F, G, H, I, M, O, Q, S, U, field_no, arg_no, type_no}
 use Rattle.rules.specs.Search.{◌#◌, Tests, given, Check, whole}

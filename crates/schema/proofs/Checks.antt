@@ -1,154 +1,94 @@
 -- What each check says of a row, letter by letter: the laws of checks 12, 14 and 15, each shaped like what a function returns.
 -- Assumes nothing.
-use Prim.Native.Nat.{ℕ, ◌≤◌, ◌<◌}
-use mathlib.Core.Path.{◌≡◌, refl}
+use Prim.Native.Nat.{ℕ}
+use mathlib.Core.Path.{◌≡◌, ◌∙◌}
 use mathlib.Core.List.{List}
 use mathlib.Core.Bool.{Bool, true, false, not}
-use mathlib.Core.Option.{none, some}
-use borrow.Author.Tests.{lt-ltb, le-ltb, ne_eqb, not-true, not-false}
+use Rattle.std.specs.Prelude.{Option, None}
+use lib.ListN.{get_or}
+use lib.Dec.{eqb, ltb}
+use borrow.Author.Tests.{ne_eqb}
 use Rattle.rules.specs.Text.{type_no, field_no, arg_no}
-use Rattle.rules.specs.Search.{as_fault, worse, fault_if}
+use Rattle.rules.specs.Search.{worse, fault_if}
 use Rattle.rules.specs.Schema.{declared_type, declared_field, declared_arg, is_scalar, is_object, owns_fields, has_members}
-use Rattle.rules.specs.declared.Fault.{Fault}
-use Rattle.rules.specs.declared.Fault.TheVariants.{Fine, Field}
+use Rattle.rules.proofs.Rising.{worse-none}
 use Rattle.tables.specs.Read.{schema_at, first_in, cell}
 use Rattle.schema.specs.Faults.{row_for, fault12, fault14, fault15, lacks}
 
--- ---- check 12
+-- ---- check 12: r is what the code returns, b and d are what its functions answer
+
+module _ (a : List ℕ) (l x y : ℕ) (r : Option ℕ) where
+  -- a letter that is known
+  known : (m : ℕ) → l ≡ m → r ≡ fault12 a m x y → r ≡ fault12 a l x y
+  known m e h = rw e h
+
+  pub scalar_law : l ≡ 83 → r ≡ fault_if (ltb y x) 3 → r ≡ fault12 a l x y
+  unfolding fault12 row_for
+  scalar_law e h = known 83 e (simp worse-none h)
+
+  -- the letters with one test
+
+  module _ (b : Bool) (h : r ≡ fault_if (not b) 2) where
+    pub field_law : l ≡ 70 → b ≡ declared_type (schema_at a) (type_no x) → r ≡ fault12 a l x y
+    unfolding fault12 row_for
+    field_law e f = known 70 e (simp (worse-none, ← f) h)
+
+    pub arg_law : l ≡ 65 → b ≡ is_scalar (schema_at a) (type_no x) → r ≡ fault12 a l x y
+    unfolding fault12 row_for
+    arg_law e f = known 65 e (simp (worse-none, ← f) h)
+
+    pub query_law : l ≡ 81 → b ≡ is_object (schema_at a) (type_no x) → r ≡ fault12 a l x y
+    unfolding fault12 row_for
+    query_law e f = known 81 e (simp (worse-none, ← f) h)
+
+  -- the letters with two
+
+  module _ (b d : Bool) (h : r ≡ worse (fault_if (not b) 2) (fault_if (not d) 3)) where
+    pub has_law : l ≡ 72 → b ≡ owns_fields (schema_at a) (type_no x) → d ≡ declared_field (schema_at a) (field_no y) → r ≡ fault12 a l x y
+    unfolding fault12 row_for
+    has_law e f g = known 72 e (simp (worse-none, ← f, ← g) h)
+
+    pub takes_law : l ≡ 71 → b ≡ declared_field (schema_at a) (field_no x) → d ≡ declared_arg (schema_at a) (arg_no y) → r ≡ fault12 a l x y
+    unfolding fault12 row_for
+    takes_law e f g = known 71 e (simp (worse-none, ← f, ← g) h)
+
+    pub member_law : l ≡ 77 → b ≡ has_members (schema_at a) (type_no x) → d ≡ is_object (schema_at a) (type_no y) → r ≡ fault12 a l x y
+    unfolding fault12 row_for
+    member_law e f g = known 77 e (simp (worse-none, ← f, ← g) h)
 
 module _ (a : List ℕ) (l x y : ℕ) where
-  -- a letter that is known
-  known : (m : ℕ) (r : Fault) → l ≡ m → r ≡ as_fault (fault12 a m x y) → r ≡ as_fault (fault12 a l x y)
-  known m r e h = rw e h
-
-  pub scalar_broken : l ≡ 83 → y < x → Field 3 ≡ as_fault (fault12 a l x y)
-  unfolding fault12 row_for
-  scalar_broken e h = known 83 (Field 3) e (simp (lt-ltb y x h))
-
-  pub scalar_fine : l ≡ 83 → x ≤ y → Fine ≡ as_fault (fault12 a l x y)
-  unfolding fault12 row_for
-  scalar_fine e h = known 83 Fine e (simp (le-ltb y x h))
-
-  -- field 2 at fault stays the fault, whatever field 3 says
-  both : (d : Bool) → Field 2 ≡ as_fault (worse (worse (some 2) (worse (fault_if (not d) 3) none)) none)
-  both true = refl
-  both false = refl
-
-  -- the letters with one test: b is what the code found
-
-  module _ (b : Bool) (e : l ≡ 70) (f : b ≡ declared_type (schema_at a) (type_no x)) where
-    pub field_fine : b ≡ true → Fine ≡ as_fault (fault12 a l x y)
-    unfolding fault12 row_for
-    field_fine t = known 70 Fine e (simp (← f, t))
-
-    pub field-broken : b ≡ false → Field 2 ≡ as_fault (fault12 a l x y)
-    unfolding fault12 row_for
-    field-broken t = known 70 (Field 2) e (simp (← f, t))
-
-  module _ (b : Bool) (e : l ≡ 65) (f : b ≡ is_scalar (schema_at a) (type_no x)) where
-    pub arg_fine : b ≡ true → Fine ≡ as_fault (fault12 a l x y)
-    unfolding fault12 row_for
-    arg_fine t = known 65 Fine e (simp (← f, t))
-
-    pub arg_broken : b ≡ false → Field 2 ≡ as_fault (fault12 a l x y)
-    unfolding fault12 row_for
-    arg_broken t = known 65 (Field 2) e (simp (← f, t))
-
-  module _ (b : Bool) (e : l ≡ 81) (f : b ≡ is_object (schema_at a) (type_no x)) where
-    pub query_fine : b ≡ true → Fine ≡ as_fault (fault12 a l x y)
-    unfolding fault12 row_for
-    query_fine t = known 81 Fine e (simp (← f, t))
-
-    pub query-broken : b ≡ false → Field 2 ≡ as_fault (fault12 a l x y)
-    unfolding fault12 row_for
-    query-broken t = known 81 (Field 2) e (simp (← f, t))
-
-  -- the letters with two: b and d are what the code found; the first decides whatever the second says
-
-  module _ (b : Bool) (e : l ≡ 72) (f : b ≡ owns_fields (schema_at a) (type_no x)) where
-    pub has_first : b ≡ false → Field 2 ≡ as_fault (fault12 a l x y)
-    unfolding fault12 row_for
-    has_first t = known 72 (Field 2) e (simp (← f, t) (both (declared_field (schema_at a) (field_no y))))
-
-    module _ (d : Bool) (t : b ≡ true) (g : d ≡ declared_field (schema_at a) (field_no y)) where
-      pub has_fine : d ≡ true → Fine ≡ as_fault (fault12 a l x y)
-      unfolding fault12 row_for
-      has_fine u = known 72 Fine e (simp (← f, t, ← g, u))
-
-      pub has_second : d ≡ false → Field 3 ≡ as_fault (fault12 a l x y)
-      unfolding fault12 row_for
-      has_second u = known 72 (Field 3) e (simp (← f, t, ← g, u))
-
-  module _ (b : Bool) (e : l ≡ 71) (f : b ≡ declared_field (schema_at a) (field_no x)) where
-    pub takes_first : b ≡ false → Field 2 ≡ as_fault (fault12 a l x y)
-    unfolding fault12 row_for
-    takes_first t = known 71 (Field 2) e (simp (← f, t) (both (declared_arg (schema_at a) (arg_no y))))
-
-    module _ (d : Bool) (t : b ≡ true) (g : d ≡ declared_arg (schema_at a) (arg_no y)) where
-      pub takes_fine : d ≡ true → Fine ≡ as_fault (fault12 a l x y)
-      unfolding fault12 row_for
-      takes_fine u = known 71 Fine e (simp (← f, t, ← g, u))
-
-      pub takes-second : d ≡ false → Field 3 ≡ as_fault (fault12 a l x y)
-      unfolding fault12 row_for
-      takes-second u = known 71 (Field 3) e (simp (← f, t, ← g, u))
-
-  module _ (b : Bool) (e : l ≡ 77) (f : b ≡ has_members (schema_at a) (type_no x)) where
-    pub member_first : b ≡ false → Field 2 ≡ as_fault (fault12 a l x y)
-    unfolding fault12 row_for
-    member_first t = known 77 (Field 2) e (simp (← f, t) (both (is_object (schema_at a) (type_no y))))
-
-    module _ (d : Bool) (t : b ≡ true) (g : d ≡ is_object (schema_at a) (type_no y)) where
-      pub member_fine : d ≡ true → Fine ≡ as_fault (fault12 a l x y)
-      unfolding fault12 row_for
-      member_fine u = known 77 Fine e (simp (← f, t, ← g, u))
-
-      pub member_second : d ≡ false → Field 3 ≡ as_fault (fault12 a l x y)
-      unfolding fault12 row_for
-      member_second u = known 77 (Field 3) e (simp (← f, t, ← g, u))
-
   pub other_fine : (l ≡ 83 → ⊥) → (l ≡ 70 → ⊥) → (l ≡ 65 → ⊥) → (l ≡ 72 → ⊥) → (l ≡ 71 → ⊥) → (l ≡ 77 → ⊥) → (l ≡ 81 → ⊥)
-      → Fine ≡ as_fault (fault12 a l x y)
+      → None ≡ fault12 a l x y
   unfolding fault12 row_for
   other_fine s f g h t m q =
       rw (ne_eqb l 83 s, ne_eqb l 70 f, ne_eqb l 65 g, ne_eqb l 72 h, ne_eqb l 71 t, ne_eqb l 77 m, ne_eqb l 81 q)
 
-pub ruleset scalar-laws = (scalar_broken, scalar_fine)
+pub ruleset letter_laws = (scalar_law, field_law, arg_law, query_law, has_law, takes_law, member_law, other_fine)
 
-pub ruleset row_laws = (not-true, not-false, field_fine, field-broken, arg_fine, arg_broken, has_first, has_fine, has_second)
+-- ---- checks 14 and 15: r is what the code returns, b whether it finds the row at fault
 
-pub ruleset member-laws = (takes_first, takes_fine, takes-second, member_first, member_fine, member_second)
-
-pub ruleset pair-row-laws = (not-true, not-false, query_fine, query-broken, other_fine)
-
--- ---- checks 14 and 15
-
-module _ (a : List ℕ) (l x y : ℕ) where
-  pub lacking : (b : Bool) → l ≡ 77 → b ≡ lacks a (type_no x) (type_no y) → b ≡ true → Field 0 ≡ as_fault (fault14 a l x y)
+module _ (a : List ℕ) (l x y : ℕ) (b : Bool) (r : Option ℕ) (h : r ≡ fault_if b 0) where
+  pub interface_law : (d : Bool) → l ≡ 77 → b ≡ d → d ≡ lacks a (type_no x) (type_no y) → r ≡ fault14 a l x y
   unfolding fault14 row_for lacks
-  lacking b e f t = rw (e, ← f, t)
+  interface_law d e k f = h ∙ rw (e, ← f, k) (simp worse-none)
 
-  pub lacking-none : (b : Bool) → l ≡ 77 → b ≡ lacks a (type_no x) (type_no y) → b ≡ false → Fine ≡ as_fault (fault14 a l x y)
-  unfolding fault14 row_for lacks
-  lacking-none b e f t = rw (e, ← f, t)
-
-  pub no_member : (l ≡ 77 → ⊥) → Fine ≡ as_fault (fault14 a l x y)
+  pub no_interface : (l ≡ 77 → ⊥) → b ≡ eqb l 77 → r ≡ fault14 a l x y
   unfolding fault14 row_for
-  no_member n = rw (ne_eqb l 77 n)
+  no_interface n k = h ∙ rw (k, ne_eqb l 77 n)
 
-pub ruleset interface-laws = (not-true, not-false, lacking, lacking-none, no_member)
+pub ruleset interface_laws = (interface_law, no_interface)
 
-module _ (a : List ℕ) (l n : ℕ) where
-  pub empty_union : (b : Bool) → l ≡ 85 → b ≡ first_in a 6920 (cell a 5) n → b ≡ false → Field 0 ≡ as_fault (fault15 a l n)
-  unfolding fault15 schema_at
-  empty_union b e f t = rw (e, ← f, t)
+module _ (a : List ℕ) (l n : ℕ) (b : Bool) (r : Option ℕ) (h : r ≡ fault_if b 0) where
+  pub empty_union : (d : Bool) → l ≡ 85 → d ≡ first_in a 6920 (get_or a 5 0) n → d ≡ false → b ≡ true → r ≡ fault15 a l n
+  unfolding fault15 schema_at cell
+  empty_union d e f g k = h ∙ rw (e, ← f, g, k)
 
-  pub full_union : (b : Bool) → l ≡ 85 → b ≡ first_in a 6920 (cell a 5) n → b ≡ true → Fine ≡ as_fault (fault15 a l n)
-  unfolding fault15 schema_at
-  full_union b e f t = rw (e, ← f, t)
+  pub full_union : (d : Bool) → l ≡ 85 → d ≡ first_in a 6920 (get_or a 5 0) n → d ≡ true → b ≡ false → r ≡ fault15 a l n
+  unfolding fault15 schema_at cell
+  full_union d e f g k = h ∙ rw (e, ← f, g, k)
 
-  pub no_union : (l ≡ 85 → ⊥) → Fine ≡ as_fault (fault15 a l n)
+  pub no_union : (l ≡ 85 → ⊥) → b ≡ eqb l 85 → r ≡ fault15 a l n
   unfolding fault15
-  no_union m = rw (ne_eqb l 85 m)
+  no_union m k = h ∙ rw (k, ne_eqb l 85 m)
 
-pub ruleset union-laws = (not-true, not-false, empty_union, full_union, no_union)
+pub ruleset union_laws = (empty_union, full_union, no_union)

@@ -1,4 +1,3 @@
-pub mod Letters
 pub mod Searching
 pub mod Following
 pub mod Checks

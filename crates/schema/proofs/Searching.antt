@@ -61,7 +61,7 @@ pub first_ended : (a : List ℕ) (base n x j : ℕ) → Left (first_at a base x)
 unfolding first_in
 first_ended a base n x j k h = sym (left_ended (first_at a base x) n j k h)
 
-pub ruleset first-laws = (left_all, first_found_lem, first_on, first_ended)
+pub ruleset first_laws = (left_all, first_found_lem, first_on, first_ended)
 
 -- a search through what a search has chosen is one search
 any-those : {A B : Type 0} (p : ℕ → Bool) (q : B → Bool) (g : ℕ → A) (h : A → B) (js : List ℕ)
@@ -104,4 +104,4 @@ module _ (a : List ℕ) (t o : TypeNo) (j v : ℕ) (f : v ≡ cell a (776 + 3 * 
 pub lacks-ended : (a : List ℕ) (t o : TypeNo) (j : ℕ) → Left (lacks_at a t o) (cell a 3) j → cell a 3 ≤ j → false ≡ lacks a t o
 lacks-ended a t o j k h = sym (lacks-any a t o ∙ left_ended (lacks_at a t o) (cell a 3) j k h)
 
-pub ruleset lacks-laws = (not-true, not-false, lacks-found, lacks-ended)
+pub ruleset lacks_laws = (not-true, not-false, lacks-found, lacks-ended)

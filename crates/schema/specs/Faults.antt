@@ -1,6 +1,5 @@
 -- What checks 12, 14 and 15 say of one row, by the schema that an area holds. Assumes nothing.
-use Rattle.std.specs.Prelude.{ℕ, List, [], ◌∷◌, Bool, not, cond, eqb}
-use Rattle.std.proofs.Math.Option.{Option, none}
+use Rattle.std.specs.Prelude.{ℕ, List, [], ◌∷◌, Bool, not, cond, eqb, Option, None}
 use Rattle.rules.specs.Lists.{any}
 use Rattle.rules.specs.Text.{Row, U, type_no}
 use Rattle.rules.specs.Search.{fault, fault_if}
@@ -20,7 +19,7 @@ fault14 a l x y = fault (check14 (schema_at a) [] (row_for l x y) [])
 
 -- of a union, n types stand before it, so that n is its number
 unfoldable pub fault15 : List ℕ → ℕ → ℕ → Option ℕ
-fault15 a l n = cond (eqb l U) (fault_if (not ((schema_at a).some_member (type_no n))) 0) none
+fault15 a l n = cond (eqb l U) (fault_if (not ((schema_at a).some_member (type_no n))) 0) None
 
 -- a field of t is missing from o
 unfoldable pub lacks : List ℕ → TypeNo → TypeNo → Bool

@@ -29,7 +29,7 @@ use Rattle.graph.specs.Faults.{nodes_at}
 use Rattle.graph.specs.Held.{NodesHeld, PropertiesHeld}
 use Rattle.search.specs.declared.Counts.{Counts}
 use Rattle.search.specs.Count.{counts_of, Within}
-use Rattle.search.specs.Search.{Areas, limit, pair_base, pair_count, pair_rows, SearchedFor, plain_check}
+use Rattle.search.specs.Search.{Areas, limit, pair_base, pair_count, pair_rows, plain_check}
 use Rattle.search.specs.Search.{SchemaReady, GraphReady, Ready, IndexReady, GraphTestable, Testable, Clashable, Stepping}
 use Rattle.search.proofs.Splitting.{Searched, by_11, by_12, by_13, by_14, by_15, by_21, by_22, by_23, by_24, by_25, by_26, by_31}
 use Rattle.search.proofs.DataSplit.{each-there}
@@ -47,12 +47,6 @@ pick T n (k ∷ ks) e h = go (λ q. pick T n ks e.1 q) (eqb n k) refl
     go : (among n ks ≡ true → T n) → (t : Bool) → eqb n k ≡ t → T n
     go ih true q = subst T (sym (eqb-true n k q)) e.0
     go ih false q = ih (subst (λ (t : Bool). (t || among n ks) ≡ true) q h)
-
-pub searched : (n : ℕ) → SearchedFor n → Searched n
-unfolding SearchedFor
-searched n h =
-    pick Searched n (11 ∷ 12 ∷ 13 ∷ 14 ∷ 15 ∷ 21 ∷ 22 ∷ 23 ∷ 24 ∷ 25 ∷ 26 ∷ 31 ∷ [])
-    (by_11, (by_12, (by_13, (by_14, (by_15, (by_21, (by_22, (by_23, (by_24, (by_25, (by_26, (by_31, tt)))))))))))) h
 
 -- ---- the areas
 

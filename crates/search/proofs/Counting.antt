@@ -1,4 +1,4 @@
--- The counts of the lines: none, one more, and no more than there are bytes. Assumes nothing.
+-- The counts of the lines: one more, and no more than there are bytes. Assumes nothing.
 use Prim.Native.Nat.{ℕ, suc, ◌+◌, ◌*◌, ◌≤◌}
 use native.Mathlib.Omega.{arith}
 use mathlib.Core.Path.{◌≡◌, refl, ap, ◌∙◌}
@@ -14,24 +14,7 @@ use Rattle.tables.proofs.Cells.{counted-append}
 use Rattle.search.specs.Count.{counts_of, counts_with, Within}
 use Rattle.search.proofs.Sizes.{rows_numbers, rows-length}
 
--- ---- none, and one more
-
-pub counts_none : counts_of []
-    ≡ record {
-      types = 0;
-      fields = 0;
-      args = 0;
-      has = 0;
-      takes = 0;
-      members = 0;
-      nodes = 0;
-      edges = 0;
-      properties = 0;
-      values = 0;
-      lines = 0;
-    }
-unfolding counts_of counted
-counts_none = refl
+-- ---- one more
 
 -- one row more of a table, where it belongs there
 counted-more : (k : ℕ) (ps : List Row) (r : Row) → counted k (ps ++ (r ∷ [])) ≡ counted k ps + one_if (belongs k (lettered r.letter))

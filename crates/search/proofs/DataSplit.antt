@@ -4,7 +4,7 @@ use native.Mathlib.Omega.{arith}
 use mathlib.Core.Path.{◌≡◌, refl, sym, ap, ap₂, ◌∙◌, subst, fun_ext}
 use mathlib.Core.Bool.{Bool, true, false, cond, not, ◌&&◌, and_assoc}
 use mathlib.Core.List.{List, [], ◌∷◌, ◌++◌, reverse}
-use mathlib.Core.Option.{Option, none}
+use Rattle.std.specs.Prelude.{Option, None}
 use lib.ListN.{length, get_or, length-append}
 use lib.Seq.{get_or-append-add}
 use lib.Dec.{eqb}
@@ -49,7 +49,7 @@ module _ (a g p v : List ℕ) (ps rs : List Row) (ns : List ℕ) where
       (number_read (row_with ns E) 0 (omega arith) i)
       (number_read (row_with ns E) 1 (omega arith) i)
       (number_read (row_with ns E) 2 (omega arith) i))
-      none
+      None
 
   fault-property : ℕ → ℕ → ℕ → ℕ → List ℕ → Option ℕ
   fault-property x y z n xs =
@@ -73,7 +73,7 @@ module _ (a g p v : List ℕ) (ps rs : List Row) (ns : List ℕ) where
       (e i))
 
   other_24 : (l : ℕ) → eqb l E ≡ false → eqb l P ≡ false
-      → fault (check24 (schema_at a) (graph_at g p v) (reverse ps) (row_with ns l) rs) ≡ none
+      → fault (check24 (schema_at a) (graph_at g p v) (reverse ps) (row_with ns l) rs) ≡ None
   other_24 l e f = rw (e, f)
 
 -- the property behind those of the first lines
@@ -107,10 +107,10 @@ any-limit f false n = refl
 -- one of two kinds of line, each with its own earlier lines
 twin_groups : (b c X Y : Bool) (f g : ℕ → Bool) (m n : ℕ) → (b ≡ true → X ≡ any f (count_up 0 m))
     → (c ≡ true → Y ≡ any g (count_up 0 n)) → (b ≡ true → c ≡ false)
-    → worse (grouped b ((0 # X) ∷ [])) (worse (grouped c ((0 # Y) ∷ [])) none)
+    → worse (grouped b ((0 # X) ∷ [])) (worse (grouped c ((0 # Y) ∷ [])) None)
     ≡ fault_if (any (λ j. cond b (f j) (g j)) (count_up 0 (cond b m (cond c n 0)))) 0
 twin_groups true c X Y f g m n p q s =
-    ap (λ (t : Bool). worse (worse (fault_if X 0) none) (worse (grouped t ((0 # Y) ∷ [])) none)) (s refl)
+    ap (λ (t : Bool). worse (worse (fault_if X 0) None) (worse (grouped t ((0 # Y) ∷ [])) None)) (s refl)
     ∙ one_group true X 0
     ∙ ap (λ (t : Bool). fault_if t 0) (p refl)
 twin_groups false true X Y f g m n p q s = one_group true Y 0 ∙ ap (λ (t : Bool). fault_if t 0) (q refl)

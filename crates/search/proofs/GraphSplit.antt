@@ -4,7 +4,7 @@ use native.Mathlib.Omega.{arith}
 use mathlib.Core.Path.{◌≡◌, refl, sym, ap, ap₂, ◌∙◌}
 use mathlib.Core.Bool.{true, not}
 use mathlib.Core.List.{List, [], ◌∷◌, ◌++◌, reverse}
-use mathlib.Core.Option.{Option, none}
+use Rattle.std.specs.Prelude.{Option, None}
 use lib.ListN.{length, get_or, drop, length-drop}
 use Rattle.rules.specs.Text.{Row, at, E, Pair, pairs, pairs_of, field_no, type_no}
 use Rattle.rules.specs.Search.{Test, ◌#◌, test_each, worse, fault}
@@ -67,7 +67,7 @@ module _ (a g p v : List ℕ) (ps : List Row) (r : Row) (rs : List Row) (formed 
       ap₂ worse (ap (λ (x : ℕ). grouped (is 78 r) ((2 # not (is_object (schema_at a) (type_no x))) ∷ [])) (number_read r 0 (omega arith)))
       (ap₂ worse (same_group (is_datum r) (tests22 (at r 0) (at r 1) (pairs_of r)) _
       (λ h i. tests22 (number_read r 0 (omega arith) i) (number_read r 1 (omega arith) i) (pairs-read r (datum-labelled r formed h) i)))
-      (ap (λ (x : ℕ). worse (grouped (is E r) ((4 # not (declared_node (nodes_at g) x)) ∷ [])) none) (number_read r 2 (omega arith))))
+      (ap (λ (x : ℕ). worse (grouped (is E r) ((4 # not (declared_node (nodes_at g) x)) ∷ [])) None) (number_read r 2 (omega arith))))
 
   tests23 : ℕ → ℕ → List Pair → List Test
   tests23 x y qs =
@@ -78,5 +78,5 @@ module _ (a g p v : List ℕ) (ps : List Row) (r : Row) (rs : List Row) (formed 
   pub split_23 : fault (check23 (schema_at a) (graph_at g p v) (reverse ps) r rs) ≡ fault23 a g r.letter (nums r)
   unfolding fault23 row_for graph_at nodes_at tests23
   split_23 =
-      ap (λ (o : Option ℕ). worse o none) (same_group (is_datum r) (tests23 (at r 0) (at r 1) (pairs_of r)) _
+      ap (λ (o : Option ℕ). worse o None) (same_group (is_datum r) (tests23 (at r 0) (at r 1) (pairs_of r)) _
       (λ h i. tests23 (number_read r 0 (omega arith) i) (number_read r 1 (omega arith) i) (pairs-read r (datum-labelled r formed h) i)))

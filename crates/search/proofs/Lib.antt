@@ -4,12 +4,12 @@ pub mod SchemaSplit
 pub mod GraphSplit
 pub mod DataSplit
 pub mod Splitting
+pub mod Numbers
 pub mod Sizes
 pub mod Counting
 pub mod Calls
 pub mod Looping
 pub mod Asking
 pub mod Plainly
-pub mod Dispatch
 pub mod Chained
 pub mod Walking

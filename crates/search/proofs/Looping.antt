@@ -5,13 +5,12 @@ use native.Mathlib.Omega.{arith}
 use mathlib.Core.Path.{◌≡◌, refl, sym, ap, ap₂, ◌∙◌, subst}
 use mathlib.Core.Bool.{Bool, true, false}
 use mathlib.Core.List.{List, [], ◌∷◌, ◌++◌, map, reverse, append_assoc, reverse-append}
-use mathlib.Core.Option.{Option, none, some}
+use Rattle.std.specs.Prelude.{Option, None, Some}
 use lib.ListN.{length, drop, get_or, length-append}
 use Rattle.rules.specs.Lists.{any, count_up}
 use Rattle.rules.specs.Text.{Line, Row, row, rows, lines}
-use Rattle.rules.specs.Search.{worse, fault_if, fault, Check, first_from, first_line, spot, spot_or, as_fault}
+use Rattle.rules.specs.Search.{worse, fault_if, fault, Check, first_from, first_line, spot}
 use Rattle.rules.specs.declared.Spot.{Spot}
-use Rattle.rules.specs.declared.Fault.TheVariants.{Fine, Field}
 use Rattle.rules.proofs.Clean.{Each}
 use Rattle.text.specs.declared.Row.{Row as Read}
 use Rattle.text.specs.Line.{line_at, next_at, row_at}
@@ -26,17 +25,7 @@ use Rattle.search.specs.Search.{Areas, graph_in, check_by, alone, limit, clash, 
 use Rattle.search.proofs.Splitting.{Searched, splits}
 use Rattle.search.proofs.Counting.{counts_more, valued_read, counts_within}
 
--- ---- faults as the code answers them
-
-pub as_field : (o : Option ℕ) (f : ℕ) → Field f ≡ as_fault o → o ≡ some f
-as_field none f e = let z : ◌≡◌ {A = ℕ} 0 1 = cc in absurd (omega arith)
-as_field (some g) f e = let z : g ≡ f = cc in ap {B = Option ℕ} some z
-
-pub as_fine : (o : Option ℕ) → Fine ≡ as_fault o → o ≡ none
-as_fine none e = refl
-as_fine (some g) e = let z : ◌≡◌ {A = ℕ} 0 1 = cc in absurd (omega arith)
-
-worse-zero : (f : ℕ) (b : Bool) → worse (some f) (fault_if b 0) ≡ some f
+worse-zero : (f : ℕ) (b : Bool) → worse (Some f) (fault_if b 0) ≡ Some f
 worse-zero f false = refl
 worse-zero zero true = refl
 worse-zero (suc f) true = refl
@@ -45,8 +34,8 @@ worse-zero (suc f) true = refl
 abbrev chk : ℕ → Areas → Check Row
 chk n x = check_by n (schema_at x.schema) (graph_in x)
 
-abbrev first : ℕ → List ℕ → Areas → Spot
-first n s x = spot_or (first_line (chk n x) (rows s))
+abbrev first : ℕ → List ℕ → Areas → Option Spot
+first n s x = first_line (chk n x) (rows s)
 
 module _ (n : ℕ) (s : List ℕ) (x : Areas) where
   -- The rows ps have been passed, c counts them, and the search goes on at `at`.
@@ -66,10 +55,10 @@ module _ {n : ℕ} {s : List ℕ} {x : Areas} {at : ℕ} {c : Counts} (g : Going
   abbrev from : List Row → Option Spot
   from rs = first_from (chk n x) (reverse g.ps) (suc (length g.ps)) rs
 
-  pub going_ended : length s ≤ at → spot 0 0 ≡ first n s x
+  pub going_ended : length s ≤ at → None ≡ first n s x
   going_ended h =
       let e : rows (drop at s) ≡ [] = ap (map row) (lines_end s at h) in
-      sym (ap spot_or (g.left ∙ ap from e))
+      sym (g.left ∙ ap from e)
 
   -- ---- at a line
 
@@ -139,34 +128,33 @@ module _ {n : ℕ} {s : List ℕ} {x : Areas} {at : ℕ} {c : Counts} (g : Going
           ∙ ap₂ (λ (q : Counts) (w : Read). worse (alone n x q w) (fault_if (any (clash n x w) (count_up 0 (limit n x q w))) 0))
           (sym g.counts) (sym read_here)
 
-      found_at : (f : ℕ) → said ≡ some f → spot (c.lines + 1) f ≡ first n s x
+      found_at : (f : ℕ) → said ≡ Some f → Some (spot (c.lines + 1) f) ≡ first n s x
       found_at f q =
-          let one : from (now ∷ rest) ≡ some (spot (suc (length g.ps)) f) = rw (q, first_from) in
-          ap (λ (k : ℕ). spot k f) (add-one c.lines ∙ ap suc lines-counted) ∙ sym (ap spot_or (left_here ∙ one))
+          let one : from (now ∷ rest) ≡ Some (spot (suc (length g.ps)) f) = rw (q, first_from) in
+          ap (λ (k : ℕ). Some (spot k f)) (add-one c.lines ∙ ap suc lines-counted) ∙ sym (left_here ∙ one)
 
       -- the line alone is at fault
-      pub found-alone : {f : ℕ} → Field f ≡ as_fault (alone n x c r) → spot (c.lines + 1) f ≡ first n s x
+      pub found-alone : {f : ℕ} → Some f ≡ alone n x c r → Some (spot (c.lines + 1) f) ≡ first n s x
       found-alone {f} q =
-          let a = as_field (alone n x c r) f q in
-          found_at f (fault-here ∙ ap (λ (o : Option ℕ). worse o (fault_if clashed 0)) a ∙ worse-zero f clashed)
+          found_at f (fault-here ∙ ap (λ (o : Option ℕ). worse o (fault_if clashed 0)) (sym q) ∙ worse-zero f clashed)
 
       -- it is not, and k earlier lines can clash with it
-      module _ {k : ℕ} (m : k ≡ limit n x c r) (fine : Fine ≡ as_fault (alone n x c r)) where
+      module _ {k : ℕ} (m : k ≡ limit n x c r) (fine : None ≡ alone n x c r) where
         fault-clash : (b : Bool) → any (clash n x r) (count_up 0 k) ≡ b → said ≡ fault_if b 0
         fault-clash b q =
             fault-here
-            ∙ ap₂ (λ (o : Option ℕ) (t : Bool). worse o (fault_if t 0)) (as_fine (alone n x c r) fine)
+            ∙ ap₂ (λ (o : Option ℕ) (t : Bool). worse o (fault_if t 0)) (sym fine)
             (subst (λ (z : ℕ). any (clash n x r) (count_up 0 z) ≡ b) m q)
 
         -- one of them does
-        pub found-clash : any (clash n x r) (count_up 0 k) ≡ true → spot (c.lines + 1) 0 ≡ first n s x
+        pub found-clash : any (clash n x r) (count_up 0 k) ≡ true → Some (spot (c.lines + 1) 0) ≡ first n s x
         found-clash q = found_at 0 (fault-clash true q)
 
         -- none does
         pub going_on : any (clash n x r) (count_up 0 k) ≡ false → {v : ℕ} → v ≡ values_in r.letter r.count (get_or r.nums 3 0)
             → Going n s x r.next (counts_with c r.letter v)
         going_on q {v} ve =
-            let ok : said ≡ none = fault-clash false q in
+            let ok : said ≡ None = fault-clash false q in
             let later = suc (suc (length g.ps)) in
             let on : from (now ∷ rest) ≡ first_from (chk n x) (now ∷ reverse g.ps) later rest = rw (ok, first_from) in
             let turned = sym (reverse-append g.ps (now ∷ [])) in

@@ -4,7 +4,7 @@ use native.Mathlib.Omega.{arith}
 use mathlib.Core.Path.{◌≡◌, refl, sym, ap, ap₂, ◌∙◌}
 use mathlib.Core.Bool.{Bool, true, false, cond, ◌&&◌}
 use mathlib.Core.List.{List, [], ◌∷◌, reverse, reverse_aux}
-use mathlib.Core.Option.{none}
+use Rattle.std.specs.Prelude.{None}
 use lib.ListN.{length, get_or, length-drop, length-reverse}
 use lib.Dec.{ltb, leb}
 use Rattle.rules.specs.Lists.{those, keep_if, sum_of}
@@ -90,6 +90,6 @@ module _ (ps : List Row) (r : Row) (rs : List Row) where
   pub split_31 : fault (check31 (reverse ps) r rs) ≡ alone31 (counts_of ps) (get_or (padded 12 r.numbers) 0 0)
   unfolding alone31 counts_of
   split_31 =
-      worse-none (worse (fault_if (leb 256 (length (reverse ps))) 0) (worse (fault_if (ltb 15 (at r 0)) 2) none))
+      worse-none (worse (fault_if (leb 256 (length (reverse ps))) 0) (worse (fault_if (ltb 15 (at r 0)) 2) None))
       ∙ ap₂ worse (ap (λ (c : ℕ). fault_if (leb 256 c) 0) (length-reverse ps))
       (worse-none (fault_if (ltb 15 (at r 0)) 2) ∙ ap (λ (d : ℕ). fault_if (ltb 15 d) 2) (sym (padded-at 12 r.numbers 0 (omega arith))))

@@ -4,7 +4,7 @@ use native.Mathlib.Omega.{arith}
 use mathlib.Core.Path.{◌≡◌, refl, sym, ap, ap₂, ◌∙◌, subst}
 use mathlib.Core.Bool.{Bool, true, false, cond, not, ◌&&◌}
 use mathlib.Core.List.{List, [], ◌∷◌, ◌++◌, reverse}
-use mathlib.Core.Option.{Option, none}
+use Rattle.std.specs.Prelude.{Option, None}
 use lib.ListN.{length, get_or}
 use lib.Dec.{eqb}
 use borrow.Author.Tests.{eqb-true}
@@ -42,7 +42,7 @@ module _ (a : List ℕ) (ps : List Row) (r : Row) (rs : List Row) where
   unfolding fault14 row_for
   split_14 = first_two (fault14 a r.letter)
 
-  union_split : (b t : Bool) → worse (grouped b ((0 # t) ∷ [])) none ≡ cond b (fault_if t 0) none
+  union_split : (b t : Bool) → worse (grouped b ((0 # t) ∷ [])) None ≡ cond b (fault_if t 0) None
   union_split true true = refl
   union_split true false = refl
   union_split false t = refl
@@ -51,7 +51,7 @@ module _ (a : List ℕ) (ps : List Row) (r : Row) (rs : List Row) where
   unfolding fault15 counted belongs
   split_15 =
       union_split (is U r) (not ((schema_at a).some_member (type_no (length (those is_type (reverse ps))))))
-      ∙ ap (λ (n : ℕ). cond (is U r) (fault_if (not ((schema_at a).some_member (type_no n))) 0) none) (those-reverse is_type ps)
+      ∙ ap (λ (n : ℕ). cond (is U r) (fault_if (not ((schema_at a).some_member (type_no n))) 0) None) (those-reverse is_type ps)
 
 -- ---- 13: a pair that stands earlier
 

@@ -3,7 +3,7 @@ use Prim.Native.Nat.{ℕ}
 use mathlib.Core.Path.{◌≡◌, refl, sym, ◌∙◌}
 use mathlib.Core.Bool.{false}
 use mathlib.Core.List.{List, ◌∷◌, ◌++◌, reverse}
-use mathlib.Core.Option.{Option}
+use Rattle.std.specs.Prelude.{Option}
 use Rattle.rules.specs.Lists.{any, count_up}
 use Rattle.rules.specs.Text.{Row}
 use Rattle.rules.specs.Search.{worse, fault_if, fault}

@@ -1,2 +1,3 @@
 pub mod Count
 pub mod Search
+pub mod Given

@@ -1,6 +1,5 @@
 -- The one search: what a check says of a line alone, and of a line and an earlier one. Assumes nothing.
-use Rattle.std.specs.Prelude.{ℕ, ◌+◌, ◌*◌, ◌%◌, ◌≤◌, ◌<◌, ◌≡◌, ◌⊎◌, List, [], ◌∷◌, Bool, true, false, cond, not, ◌&&◌, ◌||◌, length, get_or, eqb, ltb, leb}
-use Rattle.std.proofs.Math.Option.{Option, none}
+use Rattle.std.specs.Prelude.{ℕ, ◌+◌, ◌*◌, ◌%◌, ◌≤◌, ◌<◌, ◌≡◌, ◌⊎◌, List, [], ◌∷◌, Bool, true, false, cond, not, ◌&&◌, ◌||◌, length, get_or, eqb, ltb, leb, Option, None}
 use Rattle.rules.specs.Lists.{among}
 use Rattle.rules.specs.Text.{Row, at, field_no, E, G, H, M, P}
 use Rattle.rules.specs.Search.{worse, fault_if, Check}
@@ -22,6 +21,9 @@ use Rattle.graph.specs.Held.{NodesHeld, PropertiesHeld}
 use Rattle.graph.specs.Faults.{nodes_at, fault22, fault23, fault24_e, fault24_p, diverts_at, twin_edge, twin_property}
 use Rattle.search.specs.Count.{Within}
 use Rattle.search.specs.declared.Counts.{Counts}
+use Rattle.search.specs.declared.RowCheck.{RowCheck}
+use Rattle.search.specs.declared.RowCheck.TheVariants.{SchemaSize, SchemaNumbers, PairTwice, FieldMissing, EmptyUnion, GraphSize}
+use Rattle.search.specs.declared.RowCheck.TheVariants.{GraphNumbers, NotOwned, WrongType, SecondTarget, Twin, QuerySize}
 
 -- The work areas that hold a schema and a graph: the schema; nodes and edges; properties; their values.
 pub record Areas : Type 0 where
@@ -32,6 +34,21 @@ pub record Areas : Type 0 where
 
 unfoldable pub graph_in : Areas → Graph
 graph_in x = graph_at x.nodes x.properties x.values
+
+-- the number of a check of lines
+abbrev pub row_number : RowCheck → ℕ
+row_number SchemaSize = 11
+row_number SchemaNumbers = 12
+row_number PairTwice = 13
+row_number FieldMissing = 14
+row_number EmptyUnion = 15
+row_number GraphSize = 21
+row_number GraphNumbers = 22
+row_number NotOwned = 23
+row_number WrongType = 24
+row_number SecondTarget = 25
+row_number Twin = 26
+row_number QuerySize = 31
 
 -- The checks of lines, by number.
 unfoldable pub check_by : ℕ → Schema → Graph → Check Row
@@ -68,7 +85,7 @@ alone21 c l count n =
 unfoldable pub alone24 : Areas → Counts → ℕ → List ℕ → Option ℕ
 alone24 x c l nums =
     cond (eqb l E) (fault24_e x.schema x.nodes nums)
-    (cond (eqb l P) (fault24_p x.schema x.nodes nums (values_at x.properties x.values c.properties)) none)
+    (cond (eqb l P) (fault24_p x.schema x.nodes nums (values_at x.properties x.values c.properties)) None)
 
 unfoldable pub alone31 : Counts → ℕ → Option ℕ
 alone31 c depth = worse (fault_if (leb 256 c.lines) 0) (fault_if (ltb 15 depth) 2)
@@ -88,7 +105,7 @@ alone n x c r =
     (cond (eqb n 22) (fault22 a g l nums)
     (cond (eqb n 23) (fault23 a g l nums)
     (cond (eqb n 24) (alone24 x c l nums)
-    (cond (eqb n 31) (alone31 c (get_or nums 0 0)) none))))))))
+    (cond (eqb n 31) (alone31 c (get_or nums 0 0)) None))))))))
 
 -- where the pairs of a letter stand in the schema's area
 unfoldable pub pair_base : ℕ → ℕ

@@ -1,19 +1,67 @@
 // The one search for the first line that offends: nested over lines and earlier lines, left by a label with the offending line.
 #![tactic(auto)]
 
-ghost use Rattle.std.specs.Prelude.{◌≡◌, [], ◌&&◌, leb, ◌+◌, ◌≤◌, ◌<◌, length};
+ghost use Rattle.std.specs.Prelude.{◌≡◌, [], ◌&&◌, leb, ◌+◌, ◌≤◌, ◌<◌, length, get_or};
 ghost use Rattle.rules.specs.Lists.{one_if};
-ghost use Rattle.rules.specs.Text.{lines, rows};
-ghost use Rattle.rules.specs.Search.{as_fault, spot_or, first_line};
+ghost use Rattle.rules.specs.Text.{lines, rows, field_no};
+ghost use Rattle.rules.specs.Schema.{is_list};
+ghost use Rattle.rules.specs.Search.{first_line};
 ghost use Rattle.rules.proofs.Clean.{Each};
-ghost use Rattle.tables.specs.Layout.{belongs};
+ghost use Rattle.tables.specs.Layout.{belongs, table_number};
 ghost use Rattle.tables.specs.Fill.{Plain, lettered};
 ghost use Rattle.tables.specs.Read.{schema_at};
 ghost use Rattle.schema.specs.Held.{SchemaHeld};
+ghost use Rattle.graph.specs.Held.{NodesHeld};
+ghost use Rattle.graph.specs.Faults.{nodes_at};
+ghost use Rattle.search.specs.Given.{areas_in};
 ghost use Rattle.search.specs.Count.{counts_of, counts_with, Within};
-ghost use Rattle.search.specs.Search.{areas, graph_in, check_by, alone11, alone21, alone31, alone, limit, clash, indexed, head_of, step_of, pair_first, pair_next, first_asked, next_asked, SearchedFor, Ready, PairsReady, IndexReady, Testable, GraphTestable, Clashable};
+ghost use Rattle.search.specs.Search.{row_number, graph_in, check_by, alone11, alone21, alone24, alone31, alone, pair_base, pair_count, limit, clash, indexed, head_of, step_of, pair_first, pair_next, first_asked, next_asked, Ready, PairsReady, IndexReady, Testable, GraphTestable, Clashable};
 
-use rules::{Fault, FieldNo, Spot};
+pub mod areas; // areas.rt: the areas that the search looks at
+
+pub use areas::Areas;
+use graph::{GraphRow, NodeTables, PropertyRow};
+use rules::{FieldNo, Spot};
+use tables::{FormedText, Table};
+
+// The checks that go over the rows of a text: those of a schema, of a graph and of a query.
+#[derive(Clone, Copy, PartialEq, Eq)]
+pub enum RowCheck {
+    SchemaSize,
+    SchemaNumbers,
+    PairTwice,
+    FieldMissing,
+    EmptyUnion,
+    GraphSize,
+    GraphNumbers,
+    NotOwned,
+    WrongType,
+    SecondTarget,
+    Twin,
+    QuerySize,
+}
+
+impl RowCheck {
+    // The check's number.
+    pub fn number(self) -> u32
+        ensures { result ≡ row_number self }
+    {
+        match self {
+            RowCheck::SchemaSize => 11,
+            RowCheck::SchemaNumbers => 12,
+            RowCheck::PairTwice => 13,
+            RowCheck::FieldMissing => 14,
+            RowCheck::EmptyUnion => 15,
+            RowCheck::GraphSize => 21,
+            RowCheck::GraphNumbers => 22,
+            RowCheck::NotOwned => 23,
+            RowCheck::WrongType => 24,
+            RowCheck::SecondTarget => 25,
+            RowCheck::Twin => 26,
+            RowCheck::QuerySize => 31,
+        }
+    }
+}
 
 // How many lines of each kind have been passed, how many values they have, and how many they are.
 #[derive(Clone, Copy)]
@@ -32,18 +80,15 @@ struct Counts {
 }
 
 // One where a row with this letter belongs to table k.
-fn tick(k: u32, letter: u8) -> u32
-    ensures value { result ≡ one_if (belongs k (lettered letter)) }
+fn tick(k: Table, letter: u8) -> u32
+    ensures value { result ≡ one_if (belongs (table_number k) (lettered letter)) }
     ensures upper_bound { result ≤ 1 }
 {
-    if tables::belongs_to(k, letter) {
-        return 1;
-    }
-    0
+    tables::belongs_to(k, letter) as u32
 }
 
 impl Counts {
-    // Nothing has been passed.
+    // Nothing has been passed. Not derived: two wrong answers in tests/wrong_answers/search change what stands here.
     fn none() -> Counts
         ensures { result ≡ counts_of [] }
     {
@@ -69,15 +114,15 @@ impl Counts {
         ensures { result ≡ counts_with self letter values }
     {
         Counts {
-            types: self.types + tick(1, letter),
-            fields: self.fields + tick(2, letter),
-            args: self.args + tick(3, letter),
-            has: self.has + tick(4, letter),
-            takes: self.takes + tick(5, letter),
-            members: self.members + tick(6, letter),
-            nodes: self.nodes + tick(7, letter),
-            edges: self.edges + tick(8, letter),
-            properties: self.properties + tick(9, letter),
+            types: self.types + tick(Table::Types, letter),
+            fields: self.fields + tick(Table::Fields, letter),
+            args: self.args + tick(Table::Args, letter),
+            has: self.has + tick(Table::Has, letter),
+            takes: self.takes + tick(Table::Takes, letter),
+            members: self.members + tick(Table::Members, letter),
+            nodes: self.nodes + tick(Table::Nodes, letter),
+            edges: self.edges + tick(Table::Edges, letter),
+            properties: self.properties + tick(Table::Properties, letter),
             values: self.values + values,
             lines: self.lines + 1,
         }
@@ -87,253 +132,221 @@ impl Counts {
 // ---- a line alone
 
 // Whether a row with this letter belongs to table k, of which `most` have been counted.
-fn is_full(k: u32, most: u32, count: u32, letter: u8) -> bool
-    ensures { result ≡ (belongs k (lettered letter) && leb most count) }
+fn is_full(k: Table, most: u32, count: u32, letter: u8) -> bool
+    ensures { result ≡ (belongs (table_number k) (lettered letter) && leb most count) }
 {
-    if tables::belongs_to(k, letter) {
-        return most <= count;
-    }
-    false
+    tables::belongs_to(k, letter) && most <= count
 }
 
 // Check 11.
-fn check_11(c: Counts, letter: u8) -> Fault
-    ensures { result ≡ as_fault (alone11 c letter) }
+fn check_11(c: Counts, letter: u8) -> Option<u32>
+    ensures { result ≡ alone11 c letter }
 {
-    if is_full(1, 64, c.types, letter) {
-        return Fault::Field(0);
-    }
-    if is_full(2, 128, c.fields, letter) {
-        return Fault::Field(0);
-    }
-    if is_full(3, 64, c.args, letter) {
-        return Fault::Field(0);
-    }
-    if is_full(4, 1024, c.has, letter) {
-        return Fault::Field(0);
-    }
-    if is_full(5, 1024, c.takes, letter) {
-        return Fault::Field(0);
-    }
-    if is_full(6, 1024, c.members, letter) {
-        return Fault::Field(0);
-    }
-    Fault::Fine
+    let full = is_full(Table::Types, 64, c.types, letter)
+        || is_full(Table::Fields, 128, c.fields, letter)
+        || is_full(Table::Args, 64, c.args, letter)
+        || is_full(Table::Has, 1024, c.has, letter)
+        || is_full(Table::Takes, 1024, c.takes, letter)
+        || is_full(Table::Members, 1024, c.members, letter);
+    full.then_some(0)
 }
 
 // Check 21 of a row with so many numbers and pairs.
-fn check_21(c: Counts, letter: u8, count: usize, n: u32) -> Fault
+fn check_21(c: Counts, letter: u8, count: usize, n: u32) -> Option<u32>
     requires within { Within 65535 c }
     requires count_bound { count ≤ 65535 }
-    ensures { result ≡ as_fault (alone21 c letter count n) }
+    ensures { result ≡ alone21 c letter count n }
 {
-    if is_full(7, 512, c.nodes, letter) {
-        return Fault::Field(0);
-    }
-    if is_full(8, 1024, c.edges, letter) {
-        return Fault::Field(0);
-    }
-    if is_full(9, 1024, c.properties, letter) {
-        return Fault::Field(0);
-    }
-    if letter == b'P' {
-        if 8192 < tables::values_in(letter, count, n) + c.values as usize {
-            return Fault::Field(0);
-        }
-    }
-    Fault::Fine
+    let full = is_full(Table::Nodes, 512, c.nodes, letter)
+        || is_full(Table::Edges, 1024, c.edges, letter)
+        || is_full(Table::Properties, 1024, c.properties, letter)
+        || (letter == b'P' && 8192 < tables::values_in(letter, count, n) + c.values as usize);
+    full.then_some(0)
 }
 
 // Check 31 of a line at a depth.
-fn check_31(c: Counts, depth: u32) -> Fault
-    ensures { result ≡ as_fault (alone31 c depth) }
+fn check_31(c: Counts, depth: u32) -> Option<u32>
+    ensures { result ≡ alone31 c depth }
 {
     if 15 < depth {
-        return Fault::Field(2);
+        return Some(2);
     }
     if 256 <= c.lines {
-        return Fault::Field(0);
+        return Some(0);
     }
-    Fault::Fine
+    None
 }
 
-// Checks 22 to 24 of a line of the graph.
-fn graph_fault(
-    check: u32,
-    c: Counts,
-    r: text::Row,
-    a: &[u32],
-    g: &[u32],
-    p: &[u32],
-    v: &[u32],
-) -> Fault
-    requires graph_testable { GraphTestable (areas a.now g.now p.now v.now) c r }
-    requires le_check { 22 ≤ check }
-    requires check_bound { check ≤ 24 }
-    ensures { result ≡ as_fault (alone check (areas a.now g.now p.now v.now) c r) }
+// Check 24 of a line of the graph.
+fn check_24(c: Counts, r: text::Row, x: &Areas) -> Option<u32>
+    requires { GraphTestable (areas_in x.now) c r }
+    ensures { result ≡ alone24 (areas_in x.now) c r.letter r.nums }
 {
+    let tables = x.schema_tables();
+    let nodes = NodeTables { area: x.nodes };
     let nums = r.nums;
-    if check == 22 {
-        return graph::check_22(a, g, r.letter, nums);
+    match r.letter {
+        b'E' => graph::check_24_edge(&tables, &nodes, nums),
+        b'P' => {
+            let property = PropertyRow {
+                area: x.properties,
+                values: x.values,
+                place: c.properties as usize,
+            };
+            let row = GraphRow { nums };
+            graph::check_24_property(&tables, &nodes, &property, row)
+        }
+        _ => None,
     }
-    if check == 23 {
-        return graph::check_23(a, g, r.letter, nums);
-    }
-    if r.letter == b'E' {
-        return graph::check_24_edge(a, g, nums);
-    }
-    if r.letter == b'P' {
-        return graph::check_24_property(a, g, p, v, c.properties as usize, nums);
-    }
-    Fault::Fine
 }
 
-// What the check with a number says of a line alone, where c counts the lines before it.
-fn line_alone(
-    check: u32,
-    c: Counts,
-    r: text::Row,
-    a: &[u32],
-    g: &[u32],
-    p: &[u32],
-    v: &[u32],
-) -> Fault
-    requires searched_for { SearchedFor check }
-    requires testable { Testable check (areas a.now g.now p.now v.now) c r }
-    ensures { result ≡ as_fault (alone check (areas a.now g.now p.now v.now) c r) }
+// What a check says of a line alone, where c counts the lines before it.
+fn line_alone(check: RowCheck, c: Counts, r: text::Row, x: &Areas) -> Option<u32>
+    requires { Testable (row_number check) (areas_in x.now) c r }
+    ensures { result ≡ alone (row_number check) (areas_in x.now) c r }
 {
     let nums = r.nums;
-    if check == 11 {
-        return check_11(c, r.letter);
+    match check {
+        RowCheck::SchemaSize => check_11(c, r.letter),
+        RowCheck::SchemaNumbers => x.schema_tables().check_12(r.letter, nums[0], nums[1]),
+        RowCheck::FieldMissing => x.schema_tables().check_14(r.letter, nums[0], nums[1]),
+        RowCheck::EmptyUnion => x.schema_tables().check_15(r.letter, c.types),
+        RowCheck::GraphSize => check_21(c, r.letter, r.count, nums[3]),
+        RowCheck::GraphNumbers => graph::check_22(
+            &x.schema_tables(),
+            &NodeTables { area: x.nodes },
+            r.letter,
+            GraphRow { nums },
+        ),
+        RowCheck::NotOwned => graph::check_23(
+            &x.schema_tables(),
+            &NodeTables { area: x.nodes },
+            r.letter,
+            GraphRow { nums },
+        ),
+        RowCheck::WrongType => check_24(c, r, x),
+        RowCheck::QuerySize => check_31(c, nums[0]),
+        RowCheck::PairTwice | RowCheck::SecondTarget | RowCheck::Twin => None,
     }
-    if check == 12 {
-        return schema::check_12(a, r.letter, nums[0], nums[1]);
-    }
-    if check == 14 {
-        return schema::check_14(a, r.letter, nums[0], nums[1]);
-    }
-    if check == 15 {
-        return schema::check_15(a, r.letter, c.types);
-    }
-    if check == 21 {
-        return check_21(c, r.letter, r.count, nums[3]);
-    }
-    if check == 31 {
-        return check_31(c, nums[0]);
-    }
-    if check < 22 {
-        return Fault::Fine;
-    }
-    if check <= 24 {
-        return graph_fault(check, c, r, a, g, p, v);
-    }
-    Fault::Fine
 }
 
 // ---- a line and an earlier one
 
-// How many of the lines before it a line can clash with.
-fn earlier(check: u32, c: Counts, r: text::Row, a: &[u32], g: &[u32], p: &[u32], v: &[u32]) -> u32
-    requires searched_for { SearchedFor check }
-    requires testable { Testable check (areas a.now g.now p.now v.now) c r }
-    ensures { result ≡ limit check (areas a.now g.now p.now v.now) c r }
+// How many pairs of a letter have been passed.
+fn earlier_pairs(c: Counts, letter: u8) -> u32
+    ensures { result ≡ pair_count c letter }
 {
-    let nums = r.nums;
-    if check == 13 {
-        if r.letter == b'H' {
-            return c.has;
-        }
-        if r.letter == b'G' {
-            return c.takes;
-        }
-        if r.letter == b'M' {
-            return c.members;
-        }
-        return 0;
+    match letter {
+        b'H' => c.has,
+        b'G' => c.takes,
+        b'M' => c.members,
+        _ => 0,
     }
-    if check == 25 {
-        if r.letter == b'E' {
-            if schema::list_mark(a, graph::type_of(g, nums[0]), FieldNo(nums[1])) == 1 {
+}
+
+// Whether an edge's field is a list.
+fn is_list(nums: [u32; 12], x: &Areas) -> bool
+    requires schema_held { SchemaHeld x.now.schema.now }
+    requires nodes_held { NodesHeld x.now.nodes.now }
+    ensures { result ≡ is_list (schema_at x.now.schema.now) ((nodes_at x.now.nodes.now).type_of (get_or nums 0 0)) (field_no (get_or nums 1 0)) }
+{
+    let t = NodeTables { area: x.nodes }.type_of(nums[0]);
+    x.schema_tables().list_mark(t, FieldNo(nums[1])) == 1
+}
+
+// How many of the lines before it a line can clash with.
+fn earlier(check: RowCheck, c: Counts, r: text::Row, x: &Areas) -> u32
+    requires { Testable (row_number check) (areas_in x.now) c r }
+    ensures { result ≡ limit (row_number check) (areas_in x.now) c r }
+{
+    match check {
+        RowCheck::PairTwice => earlier_pairs(c, r.letter),
+        RowCheck::SecondTarget => {
+            if r.letter != b'E' || is_list(r.nums, x) {
                 return 0;
             }
-            return c.edges;
+            c.edges
         }
-        return 0;
+        RowCheck::Twin => match r.letter {
+            b'E' => c.edges,
+            b'P' => c.properties,
+            _ => 0,
+        },
+        _ => 0,
     }
-    if check == 26 {
-        if r.letter == b'E' {
-            return c.edges;
-        }
-        if r.letter == b'P' {
-            return c.properties;
-        }
-    }
-    0
 }
 
 // Whether a line clashes with the j-th earlier line of its kind.
-fn clashes(check: u32, r: text::Row, j: usize, a: &[u32], g: &[u32], p: &[u32], v: &[u32]) -> bool
-    requires { Clashable check (areas a.now g.now p.now v.now) r j }
-    ensures { result ≡ clash check (areas a.now g.now p.now v.now) r j }
+fn clashes(check: RowCheck, r: text::Row, j: usize, x: &Areas) -> bool
+    requires { Clashable (row_number check) (areas_in x.now) r j }
+    ensures { result ≡ clash (row_number check) (areas_in x.now) r j }
 {
     let nums = r.nums;
-    if check == 13 {
-        if r.letter == b'H' {
-            return schema::pair_at(a, 776, nums[0], nums[1], j);
-        }
-        if r.letter == b'G' {
-            return schema::pair_at(a, 3848, nums[0], nums[1], j);
-        }
-        return schema::pair_at(a, 6920, nums[0], nums[1], j);
+    match check {
+        RowCheck::PairTwice => schema::pair_at(x.schema, pair_base(r.letter), nums[0], nums[1], j),
+        RowCheck::SecondTarget => graph::diverts_at(&NodeTables { area: x.nodes }, nums, j),
+        _ => match r.letter {
+            b'E' => graph::twin_edge(&NodeTables { area: x.nodes }, GraphRow { nums }, j),
+            _ => {
+                let property = PropertyRow {
+                    area: x.properties,
+                    values: x.values,
+                    place: j,
+                };
+                graph::twin_property(&property, GraphRow { nums })
+            }
+        },
     }
-    if check == 25 {
-        return graph::diverts_at(g, nums, j);
-    }
-    if r.letter == b'E' {
-        return graph::twin_edge(g, nums, j);
-    }
-    graph::twin_property(p, v, nums, j)
 }
 
-// Whether a check walks the index.
-fn by_index(check: u32) -> bool
-    ensures { result ≡ indexed check }
+// Where the pairs of a letter stand in the schema's area. The three relations differ here alone, and in where their links and counts stand:
+// what goes over them is one.
+fn pair_base(letter: u8) -> usize
+    ensures value { result ≡ pair_base letter }
+    ensures upper_bound { result ≤ 10000 }
 {
-    if check == 25 {
-        return true;
+    match letter {
+        b'H' => 776,
+        b'G' => 3848,
+        _ => 6920,
     }
-    check == 26
+}
+
+// Whether a check walks the index. A check is asked what it is at each step, and hands no closure: the contract says of each its definition by
+// its number, and one function for all is what `first_offence` promises.
+fn by_index(check: RowCheck) -> bool
+    ensures { result ≡ indexed (row_number check) }
+{
+    matches!(check, RowCheck::SecondTarget | RowCheck::Twin)
 }
 
 // The earlier line that a line of the graph is held against first.
-fn first_datum(check: u32, r: text::Row, g: &[u32], p: &[u32], ix: &[u32]) -> usize
-    requires nums_len { length r.nums ≡ 12 }
-    requires index_ready { IndexReady check g.now p.now ix.now }
-    ensures { result ≡ head_of check g.now p.now ix.now r }
+fn first_datum(check: RowCheck, r: text::Row, x: &Areas) -> usize
+    requires index_ready { IndexReady (row_number check) x.now.nodes.now x.now.properties.now x.now.index.now }
+    ensures { result ≡ head_of (row_number check) x.now.nodes.now x.now.properties.now x.now.index.now r }
 {
-    let nums = r.nums;
-    if by_index(check) {
-        if r.letter == b'E' {
-            return index::first_row(ix, 0, g[1] as usize, nums[0]);
-        }
-        return index::first_row(ix, 1536, p[0] as usize, nums[0]);
+    if !by_index(check) {
+        return 0;
     }
-    0
+    match r.letter {
+        b'E' => index::first_row(x.index, 0, x.nodes[1] as usize, r.nums[0]),
+        _ => index::first_row(x.index, 1536, x.properties[0] as usize, r.nums[0]),
+    }
 }
 
 // The earlier line that a line of the graph is held against behind the j-th.
-fn next_datum(check: u32, r: text::Row, g: &[u32], p: &[u32], ix: &[u32], j: usize) -> usize
-    requires index_ready { IndexReady check g.now p.now ix.now }
+fn next_datum(check: RowCheck, r: text::Row, x: &Areas, j: usize) -> usize
+    requires index_ready { IndexReady (row_number check) x.now.nodes.now x.now.properties.now x.now.index.now }
     requires j_bound { j < 1024 }
-    ensures { result ≡ step_of check g.now p.now ix.now r j }
+    ensures { result ≡ step_of (row_number check) x.now.nodes.now x.now.properties.now x.now.index.now r j }
 {
-    if by_index(check) {
-        if r.letter == b'E' {
-            return index::next_row(ix, 0, g[1] as usize, j);
-        }
-        return index::next_row(ix, 1536, p[0] as usize, j);
+    if !by_index(check) {
+        return j + 1;
     }
-    j + 1
+    match r.letter {
+        b'E' => index::next_row(x.index, 0, x.nodes[1] as usize, j),
+        _ => index::next_row(x.index, 1536, x.properties[0] as usize, j),
+    }
 }
 
 // The earlier pair that a pair with this letter and the first number x is held against first.
@@ -341,13 +354,11 @@ fn first_pair(a: &[u32], letter: u8, x: u32) -> usize
     requires { SchemaHeld a.now }
     ensures { result ≡ pair_first a.now letter x }
 {
-    if letter == b'H' {
-        return index::first_row(a, index::HAS_LINKS, a[3] as usize, x % 512);
+    match letter {
+        b'H' => index::first_row(a, index::HAS_LINKS, a[3] as usize, x % 512),
+        b'G' => index::first_row(a, index::TAKES_LINKS, a[4] as usize, x % 512),
+        _ => index::first_row(a, index::MEMBER_LINKS, a[5] as usize, x % 512),
     }
-    if letter == b'G' {
-        return index::first_row(a, index::TAKES_LINKS, a[4] as usize, x % 512);
-    }
-    index::first_row(a, index::MEMBER_LINKS, a[5] as usize, x % 512)
 }
 
 // The earlier pair that a pair with this letter is held against behind the j-th.
@@ -356,97 +367,72 @@ fn next_pair(a: &[u32], letter: u8, j: usize) -> usize
     requires j_bound { j < 1024 }
     ensures { result ≡ pair_next a.now letter j }
 {
-    if letter == b'H' {
-        return index::next_row(a, index::HAS_LINKS, a[3] as usize, j);
+    match letter {
+        b'H' => index::next_row(a, index::HAS_LINKS, a[3] as usize, j),
+        b'G' => index::next_row(a, index::TAKES_LINKS, a[4] as usize, j),
+        _ => index::next_row(a, index::MEMBER_LINKS, a[5] as usize, j),
     }
-    if letter == b'G' {
-        return index::next_row(a, index::TAKES_LINKS, a[4] as usize, j);
-    }
-    index::next_row(a, index::MEMBER_LINKS, a[5] as usize, j)
 }
 
 // The earlier line that a line is held against first.
-fn first_earlier(check: u32, r: text::Row, a: &[u32], g: &[u32], p: &[u32], ix: &[u32]) -> usize
-    requires nums_len { length r.nums ≡ 12 }
-    requires pairs_ready { PairsReady check a.now }
-    requires index_ready { IndexReady check g.now p.now ix.now }
-    ensures { result ≡ first_asked check a.now g.now p.now ix.now r }
+fn first_earlier(check: RowCheck, r: text::Row, x: &Areas) -> usize
+    requires pairs_ready { PairsReady (row_number check) x.now.schema.now }
+    requires index_ready { IndexReady (row_number check) x.now.nodes.now x.now.properties.now x.now.index.now }
+    ensures { result ≡ first_asked (row_number check) x.now.schema.now x.now.nodes.now x.now.properties.now x.now.index.now r }
 {
-    let nums = r.nums;
-    if check == 13 {
-        return first_pair(a, r.letter, nums[0]);
+    match check {
+        RowCheck::PairTwice => first_pair(x.schema, r.letter, r.nums[0]),
+        _ => first_datum(check, r, x),
     }
-    first_datum(check, r, g, p, ix)
 }
 
 // The earlier line that a line is held against behind the j-th.
-fn next_earlier(
-    check: u32,
-    r: text::Row,
-    a: &[u32],
-    g: &[u32],
-    p: &[u32],
-    ix: &[u32],
-    j: usize,
-) -> usize
-    requires pairs_ready { PairsReady check a.now }
-    requires index_ready { IndexReady check g.now p.now ix.now }
+fn next_earlier(check: RowCheck, r: text::Row, x: &Areas, j: usize) -> usize
+    requires pairs_ready { PairsReady (row_number check) x.now.schema.now }
+    requires index_ready { IndexReady (row_number check) x.now.nodes.now x.now.properties.now x.now.index.now }
     requires j_bound { j < 1024 }
-    ensures { result ≡ next_asked check a.now g.now p.now ix.now r j }
+    ensures { result ≡ next_asked (row_number check) x.now.schema.now x.now.nodes.now x.now.properties.now x.now.index.now r j }
 {
-    if check == 13 {
-        return next_pair(a, r.letter, j);
+    match check {
+        RowCheck::PairTwice => next_pair(x.schema, r.letter, j),
+        _ => next_datum(check, r, x, j),
     }
-    next_datum(check, r, g, p, ix, j)
 }
 
-// The first line that offends against the check with a number, with the field at fault; line 0 where none does.
-pub fn first_offence(
-    check: u32,
-    s: &[u8],
-    a: &[u32],
-    g: &[u32],
-    p: &[u32],
-    v: &[u32],
-    ix: &[u32],
-) -> Spot
-    requires searched_for { SearchedFor check }
-    requires s_len_bound { length s.now ≤ 65535 }
-    requires each { Each Plain (lines s.now) }
-    requires ready { Ready check (rows s.now) (areas a.now g.now p.now v.now) }
-    requires index_ready { IndexReady check g.now p.now ix.now }
-    ensures { result ≡ spot_or (first_line (check_by check (schema_at a.now) (graph_in (areas a.now g.now p.now v.now))) (rows s.now)) }
+// The first line that offends against a check, with the field at fault.
+pub fn first_offence(check: RowCheck, s: &FormedText, x: &Areas) -> Option<Spot>
+    requires ready { Ready (row_number check) (rows s.now.bytes.now) (areas_in x.now) }
+    requires index_ready { IndexReady (row_number check) x.now.nodes.now x.now.properties.now x.now.index.now }
+    ensures { result ≡ first_line (check_by (row_number check) (schema_at x.now.schema.now) (graph_in (areas_in x.now))) (rows s.now.bytes.now) }
 {
-    let mut found = Spot { line: 0, field: 0 };
+    // A rule of the project (docs/DECISIONS.md, forms by place): two loops, nested, left by a label with the offending line.
+    // Neither counts: the one goes on behind the bytes that were read, the other along a chain.
+    let mut found = None;
     let mut c = Counts::none();
     let mut at: usize = 0;
-    'lines: while at < s.len() {
-        let r = text::read_row(s, at);
-        let f = line_alone(check, c, r, a, g, p, v);
-        if let Fault::Field(field) = f {
-            found = Spot {
+    'lines: while at < s.bytes.len() {
+        let r = text::read_row(s.bytes, at);
+        if let Some(field) = line_alone(check, c, r, x) {
+            found = Some(Spot {
                 line: c.lines + 1,
                 field,
-            };
+            });
             break 'lines;
         }
-        let end = earlier(check, c, r, a, g, p, v) as usize;
-        let mut j = first_earlier(check, r, a, g, p, ix);
+        let end = earlier(check, c, r, x) as usize;
+        let mut j = first_earlier(check, r, x);
         while j < end {
-            if clashes(check, r, j, a, g, p, v) {
-                found = Spot {
+            if clashes(check, r, j, x) {
+                found = Some(Spot {
                     line: c.lines + 1,
                     field: 0,
-                };
+                });
                 break 'lines;
             }
-            j = next_earlier(check, r, a, g, p, ix, j);
+            j = next_earlier(check, r, x, j);
         }
-        let nums = r.nums;
-        c = c.with_row(
-            r.letter,
-            tables::values_in(r.letter, r.count, nums[3]) as u32,
-        );
+        let values = tables::values_in(r.letter, r.count, r.nums[3]) as u32;
+        c = c.with_row(r.letter, values);
         at = r.next;
     }
     found

@@ -11,6 +11,7 @@ use borrow.Author.Tests.{eq-eqb, ne_eqb}
 use Rattle.rules.specs.Eval.{label, open_object, open_list, close_list, null as nullToken}
 use Rattle.tokens.specs.Response.{Response, done, field, Content, value, null, values, object, objects, Objects, none, one, tokens, contents, listed, largest_label, Within, WithinContent, WithinObjects}
 use Rattle.shorten.specs.Pass.{side_of, hits, most_brackets}
+use Rattle.shorten.specs.declared.Mode.TheVariants.{InBoth, Labelled, Striking}
 use Rattle.shorten.specs.declared.Side.TheVariants.{Plain, Named, Opener}
 use Rattle.shorten.proofs.Sides.{side_value, side_label, side_open, side_begin, side_null}
 use Rattle.shorten.proofs.Way.{way, pass, step, regroup}
@@ -51,7 +52,7 @@ pub record Left (R S : Response) (d e : ℕ) : Type 0 where
   pub remains : Response
   pub within : Within remains e
   pub runs : (rest : List ℕ) → Stops rest → (f : List ℕ) (st : List (List ℕ)) → length st + 2 * d < most_brackets
-      → pass (tokens R ++ f) (way 0 (tokens S ++ rest) st) ≡ pass f (way 0 (tokens remains ++ rest) st)
+      → pass (tokens R ++ f) (way InBoth (tokens S ++ rest) st) ≡ pass f (way InBoth (tokens remains ++ rest) st)
   pub complete : Shorter R S → remains ≡ done
   pub sound : remains ≡ done
       → record { read : Response; same : tokens read ≡ tokens S; fits : Within read e; shorter : Shorter R read }
@@ -60,7 +61,7 @@ pub record LeftObjects (os ps : Objects) (d e : ℕ) : Type 0 where
   pub remains : Objects
   pub within : WithinObjects remains e
   pub runs : (x f : List ℕ) (st : List (List ℕ)) → length st + 2 * d ≤ most_brackets
-      → pass (listed os ++ f) (way 0 (listed ps ++ close_list ∷ x) st) ≡ pass f (way 0 (listed remains ++ close_list ∷ x) st)
+      → pass (listed os ++ f) (way InBoth (listed ps ++ close_list ∷ x) st) ≡ pass f (way InBoth (listed remains ++ close_list ∷ x) st)
   pub complete : Among os ps → remains ≡ none
   pub sound : remains ≡ none
       → record { read : Objects; same : listed read ≡ listed ps; fits : WithinObjects read e; among : Among os read }
@@ -68,7 +69,7 @@ pub record LeftObjects (os ps : Objects) (d e : ℕ) : Type 0 where
 -- The pass over a content, on a field with the same label: it takes the field, or it leaves it.
 pub record Takes (c x : Content) (d e : ℕ) : Type 0 where
   pub runs : (l : ℕ) (f s : List ℕ) (st : List (List ℕ)) → l ≤ largest_label → length st + 2 * d < most_brackets
-      → pass (contents c ++ f) (way 1 (field_of l x s) st) ≡ pass f (way 0 s st)
+      → pass (contents c ++ f) (way Labelled (field_of l x s) st) ≡ pass f (way InBoth s st)
   pub read : Content
   pub same : contents read ≡ contents x
   pub fits : WithinContent read e
@@ -76,7 +77,7 @@ pub record Takes (c x : Content) (d e : ℕ) : Type 0 where
 
 pub record Leaves (c x : Content) (d : ℕ) : Type 0 where
   pub runs : (l : ℕ) (f s : List ℕ) (st : List (List ℕ)) → l ≤ largest_label → length st + 2 * d < most_brackets
-      → pass (contents c ++ f) (way 1 (field_of l x s) st) ≡ pass f (way 0 (field_of l x s) st)
+      → pass (contents c ++ f) (way Labelled (field_of l x s) st) ≡ pass f (way InBoth (field_of l x s) st)
   pub never : Keeps c x → ⊥
 
 abbrev pub Passes : Response → ℕ → Type 0
@@ -111,8 +112,8 @@ module _ (l : ℕ) (c : Content) (r : Response) (d : ℕ) (wl : l ≤ largest_la
     remains = i.remains;
     within = i.within;
     runs = λ rest z f st b.
-        step (label l) ((contents c ++ tokens r) ++ f) 0 (tokens S ++ rest) st Named false (side_label l wl) (h rest z)
-        ∙ regroup (contents c) (tokens r) f (way 2 (tokens S ++ rest) st)
+        step (label l) ((contents c ++ tokens r) ++ f) InBoth (tokens S ++ rest) st Named false (side_label l wl) (h rest z)
+        ∙ regroup (contents c) (tokens r) f (way (Striking 0) (tokens S ++ rest) st)
         ∙ strike_content c d wc 0 (tokens r ++ f) (tokens S ++ rest) st
         ∙ i.runs rest z f st b;
     complete = ⊎_elim i.complete (λ k. absurd (n k.content k.rest k.is));
@@ -121,14 +122,14 @@ module _ (l : ℕ) (c : Content) (r : Response) (d : ℕ) (wl : l ≤ largest_la
 
   -- the labels are the same
   named : (x : Content) (s : Response) (rest f : List ℕ) (st : List (List ℕ))
-      → pass (tokens (field l c r) ++ f) (way 0 (tokens (field l x s) ++ rest) st)
-      ≡ pass (contents c ++ (tokens r ++ f)) (way 1 (field_of l x (tokens s ++ rest)) st)
+      → pass (tokens (field l c r) ++ f) (way InBoth (tokens (field l x s) ++ rest) st)
+      ≡ pass (contents c ++ (tokens r ++ f)) (way Labelled (field_of l x (tokens s ++ rest)) st)
   unfolding tokens
   named x s rest f st =
       let all = label l ∷ ((contents x ++ tokens s) ++ rest) in
-      step (label l) ((contents c ++ tokens r) ++ f) 0 all st Named true (side_label l wl) (eq-eqb (label l) (label l) refl)
-      ∙ regroup (contents c) (tokens r) f (way 1 all st)
-      ∙ ap (λ (z : List ℕ). pass (contents c ++ (tokens r ++ f)) (way 1 (label l ∷ z) st)) (append_assoc (contents x) (tokens s) rest)
+      step (label l) ((contents c ++ tokens r) ++ f) InBoth all st Named true (side_label l wl) (eq-eqb (label l) (label l) refl)
+      ∙ regroup (contents c) (tokens r) f (way Labelled all st)
+      ∙ ap (λ (z : List ℕ). pass (contents c ++ (tokens r ++ f)) (way Labelled (label l ∷ z) st)) (append_assoc (contents x) (tokens s) rest)
 
   taken : (x : Content) (s : Response) (e : ℕ) → Takes c x d e → Left r s d e → Left (field l c r) (field l x s) d e
   unfolding Shorter tokens Within
@@ -155,7 +156,7 @@ module _ (l : ℕ) (c : Content) (r : Response) (d : ℕ) (wl : l ≤ largest_la
     runs = λ rest z f st b.
         named x s rest f st
         ∙ t.runs l (tokens r ++ f) (tokens s ++ rest) st wl b
-        ∙ ap (λ (z : List ℕ). pass (tokens r ++ f) (way 0 (label l ∷ z) st)) (sym (append_assoc (contents x) (tokens s) rest))
+        ∙ ap (λ (z : List ℕ). pass (tokens r ++ f) (way InBoth (label l ∷ z) st)) (sym (append_assoc (contents x) (tokens s) rest))
         ∙ i.runs rest z f st b;
     complete = ⊎_elim
         i.complete
@@ -192,19 +193,19 @@ head (objects os) = open_list
 missed_bracket : (x : ℕ) (c : Content) (d : ℕ) → WithinContent c d → (f rest S : List ℕ) (st : List (List ℕ)) → side_of x ≡ Opener
     → contents c ++ f ≡ x ∷ rest
     → hits x (drop 1 S) ≡ false
-    → pass (contents c ++ f) (way 1 S st) ≡ pass f (way 0 S st)
+    → pass (contents c ++ f) (way Labelled S st) ≡ pass f (way InBoth S st)
 missed_bracket x c d w f rest S st o e h =
-    ap (λ (z : List ℕ). pass z (way 1 S st)) e
-    ∙ step x rest 1 S st Opener false o h
+    ap (λ (z : List ℕ). pass z (way Labelled S st)) e
+    ∙ step x rest Labelled S st Opener false o h
     ∙ sym (gone x rest 0 S st Opener o)
-    ∙ ap (λ (z : List ℕ). pass z (way 2 S st)) (sym e)
+    ∙ ap (λ (z : List ℕ). pass z (way (Striking 0) S st)) (sym e)
     ∙ strike_content c d w 0 f S st
 
 missed_content : (c : Content) (d : ℕ) → WithinContent c d → (f S : List ℕ) (st : List (List ℕ)) → hits (head c) (drop 1 S) ≡ false
-    → pass (contents c ++ f) (way 1 S st) ≡ pass f (way 0 S st)
+    → pass (contents c ++ f) (way Labelled S st) ≡ pass f (way InBoth S st)
 unfolding head tokens Within
-missed_content (value v) d w f S st h = step v f 1 S st Plain false (side_value v w) h
-missed_content null d w f S st h = step nullToken f 1 S st Plain false side_null h
+missed_content (value v) d w f S st h = step v f Labelled S st Plain false (side_value v w) h
+missed_content null d w f S st h = step nullToken f Labelled S st Plain false side_null h
 missed_content (values vs) d w f S st h = missed_bracket open_list (values vs) d w f _ S st side_begin refl h
 missed_content (object r) d w f S st h = missed_bracket open_object (object r) d w f _ S st side_open refl h
 missed_content (objects os) d w f S st h = missed_bracket open_list (objects os) d w f _ S st side_begin refl h

@@ -7,7 +7,6 @@ pub mod Left
 pub mod Plain
 pub mod Nested
 pub mod Passes
-pub mod Turns
 pub mod Walks
 pub mod Verdicts
 pub mod Promised

@@ -11,6 +11,7 @@ use Rattle.rules.specs.Text.{largest}
 use Rattle.rules.specs.Eval.{label, open_object, close_object, open_list, close_list}
 use Rattle.tokens.specs.Response.{Response, done, field, Content, value, null, values, object, objects, Objects, none, one, tokens, contents, listed, largest_label, Within, WithinContent, WithinObjects}
 use Rattle.shorten.specs.Pass.{hits, most_brackets}
+use Rattle.shorten.specs.declared.Mode.TheVariants.{InBoth, Labelled, Striking}
 use Rattle.shorten.specs.declared.Side.TheVariants.{Opener, Closer}
 use Rattle.shorten.proofs.Sides.{side_open, side_close, side_end}
 use Rattle.shorten.proofs.Way.{way, pass, step, regroup}
@@ -27,14 +28,14 @@ stops_close s l h = ne_eqb close_object (label l) (omega arith)
 
 -- its `}`: where nothing remains it stands in both
 ends-object : (f s t : List ℕ) (st : List (List ℕ))
-    → pass (close_object ∷ f) (way 0 (close_object ∷ s) (t ∷ st)) ≡ pass f (way 0 s st)
-ends-object f s t st = step close_object f 0 (close_object ∷ s) (t ∷ st) Closer true side_close refl
+    → pass (close_object ∷ f) (way InBoth (close_object ∷ s) (t ∷ st)) ≡ pass f (way InBoth s st)
+ends-object f s t st = step close_object f InBoth (close_object ∷ s) (t ∷ st) Closer true side_close refl
 
 -- and where a field remains the pass goes back
 fails_object : (f s t : List ℕ) (st : List (List ℕ)) (k : ℕ) → k ≤ largest_label
-    → pass (close_object ∷ f) (way 0 (label k ∷ s) (t ∷ st)) ≡ pass f (way 0 t st)
+    → pass (close_object ∷ f) (way InBoth (label k ∷ s) (t ∷ st)) ≡ pass f (way InBoth t st)
 fails_object f s t st k h =
-    step close_object f 0 (label k ∷ s) (t ∷ st) Closer false side_close (ne_eqb (label k) close_object (omega arith))
+    step close_object f InBoth (label k ∷ s) (t ∷ st) Closer false side_close (ne_eqb (label k) close_object (omega arith))
 
 module _ (r : Response) (d : ℕ) (hd : 0 < d) (w : Within r (d - 1)) (p : Passes r (d - 1)) where
   pub meet-object : Meets (object r) d
@@ -50,13 +51,13 @@ module _ (r : Response) (d : ℕ) (hd : 0 < d) (w : Within r (d - 1)) (p : Passe
       i = p y (e - 1) h.1
 
       inside : (l : ℕ) (f s : List ℕ) (st : List (List ℕ)) → length st + 2 * d < most_brackets
-          → pass (contents (object r) ++ f) (way 1 (field_of l (object y) s) st)
-          ≡ pass (close_object ∷ f) (way 0 (tokens i.remains ++ close_object ∷ s) (field_of l (object y) s ∷ st))
+          → pass (contents (object r) ++ f) (way Labelled (field_of l (object y) s) st)
+          ≡ pass (close_object ∷ f) (way InBoth (tokens i.remains ++ close_object ∷ s) (field_of l (object y) s ∷ st))
       inside l f s st b =
           let all = field_of l (object y) s in
           push open_object ((tokens r ++ close_object ∷ []) ++ f) all st side_open refl (omega arith)
-          ∙ regroup (tokens r) (close_object ∷ []) f (way 0 ((tokens y ++ close_object ∷ []) ++ s) (all ∷ st))
-          ∙ ap (λ (z : List ℕ). pass (tokens r ++ close_object ∷ f) (way 0 z (all ∷ st))) (append_assoc (tokens y) (close_object ∷ []) s)
+          ∙ regroup (tokens r) (close_object ∷ []) f (way InBoth ((tokens y ++ close_object ∷ []) ++ s) (all ∷ st))
+          ∙ ap (λ (z : List ℕ). pass (tokens r ++ close_object ∷ f) (way InBoth z (all ∷ st))) (append_assoc (tokens y) (close_object ∷ []) s)
           ∙ i.runs (close_object ∷ s) (stops_close s) (close_object ∷ f) (all ∷ st) (omega arith)
 
       go : (k : Response) → i.remains ≡ k → Takes (object r) (object y) d e ⊎ Leaves (object r) (object y) d
@@ -83,16 +84,16 @@ module _ (r : Response) (d : ℕ) (hd : 0 < d) (w : Within r (d - 1)) (p : Passe
 
 -- one is struck out
 dropped : (r : Response) (os : Objects) (d : ℕ) → Within r (d - 1) → (f s : List ℕ) (st : List (List ℕ)) → hits open_object s ≡ false
-    → pass (listed (one r os) ++ f) (way 0 s st) ≡ pass (listed os ++ f) (way 0 s st)
+    → pass (listed (one r os) ++ f) (way InBoth s st) ≡ pass (listed os ++ f) (way InBoth s st)
 unfolding tokens
 dropped r os d w f s st h =
-    step open_object ((tokens r ++ close_object ∷ listed os) ++ f) 0 s st Opener false side_open h
-    ∙ regroup (tokens r) (close_object ∷ listed os) f (way 3 s st)
+    step open_object ((tokens r ++ close_object ∷ listed os) ++ f) InBoth s st Opener false side_open h
+    ∙ regroup (tokens r) (close_object ∷ listed os) f (way (Striking 1) s st)
     ∙ strike r (d - 1) w 0 (close_object ∷ (listed os ++ f)) s st
     ∙ gone close_object (listed os ++ f) 1 s st Closer side_close
 
 all-dropped : (os : Objects) (d : ℕ) → WithinObjects os d → (f s : List ℕ) (st : List (List ℕ)) → hits open_object s ≡ false
-    → pass (listed os ++ f) (way 0 s st) ≡ pass f (way 0 s st)
+    → pass (listed os ++ f) (way InBoth s st) ≡ pass f (way InBoth s st)
 unfolding tokens Within
 all-dropped none d w f s st h = refl
 all-dropped (one r os) d w f s st h = dropped r os d w.1 f s st h ∙ all-dropped os d w.2 f s st h
@@ -108,8 +109,8 @@ gather_none d ps e w = record {
 }
 
 push_row : (f s : List ℕ) (st : List (List ℕ)) → length st < most_brackets
-    → pass (open_object ∷ f) (way 0 (open_object ∷ s) st) ≡ pass f (way 0 s ((open_object ∷ s) ∷ st))
-push_row f s st b = step open_object f 0 (open_object ∷ s) st Opener true side_open refl ∙ rw (lt-ltb (length st) most_brackets b)
+    → pass (open_object ∷ f) (way InBoth (open_object ∷ s) st) ≡ pass f (way InBoth s ((open_object ∷ s) ∷ st))
+push_row f s st b = step open_object f InBoth (open_object ∷ s) st Opener true side_open refl ∙ rw (lt-ltb (length st) most_brackets b)
 
 -- objects of a list, up to its end, and what follows it
 abbrev rows_of : Response → Objects → List ℕ → List ℕ
@@ -133,14 +134,14 @@ module _ (r : Response) (os : Objects) (d : ℕ) (hd : 0 < d) (w : Within r (d -
       i = p y (e - 1) v.1
 
       inside : (x f : List ℕ) (st : List (List ℕ)) → length st + 2 * d ≤ most_brackets
-          → pass (listed (one r os) ++ f) (way 0 (rows_of y ps x) st)
-          ≡ pass (close_object ∷ (listed os ++ f)) (way 0 (tokens i.remains ++ close_object ∷ (listed ps ++ close_list ∷ x)) (rows_of y ps x ∷ st))
+          → pass (listed (one r os) ++ f) (way InBoth (rows_of y ps x) st)
+          ≡ pass (close_object ∷ (listed os ++ f)) (way InBoth (tokens i.remains ++ close_object ∷ (listed ps ++ close_list ∷ x)) (rows_of y ps x ∷ st))
       inside x f st b =
           let rest = listed ps ++ close_list ∷ x in
           let here = (tokens y ++ close_object ∷ listed ps) ++ close_list ∷ x in
           push_row ((tokens r ++ close_object ∷ listed os) ++ f) here st (omega arith)
-          ∙ regroup (tokens r) (close_object ∷ listed os) f (way 0 here ((open_object ∷ here) ∷ st))
-          ∙ ap (λ (z : List ℕ). pass (tokens r ++ close_object ∷ (listed os ++ f)) (way 0 z ((open_object ∷ here) ∷ st)))
+          ∙ regroup (tokens r) (close_object ∷ listed os) f (way InBoth here ((open_object ∷ here) ∷ st))
+          ∙ ap (λ (z : List ℕ). pass (tokens r ++ close_object ∷ (listed os ++ f)) (way InBoth z ((open_object ∷ here) ∷ st)))
           (append_assoc (tokens y) (close_object ∷ listed ps) (close_list ∷ x))
           ∙ i.runs (close_object ∷ rest) (stops_close rest) (close_object ∷ (listed os ++ f)) ((open_object ∷ here) ∷ st) (omega arith)
 
@@ -181,8 +182,8 @@ module _ (r : Response) (os : Objects) (d : ℕ) (hd : 0 < d) (w : Within r (d -
           }
 
 -- its `]`: where no object remains it stands in both
-ends_list : (f s t : List ℕ) (st : List (List ℕ)) → pass (close_list ∷ f) (way 0 (close_list ∷ s) (t ∷ st)) ≡ pass f (way 0 s st)
-ends_list f s t st = step close_list f 0 (close_list ∷ s) (t ∷ st) Closer true side_end refl
+ends_list : (f s t : List ℕ) (st : List (List ℕ)) → pass (close_list ∷ f) (way InBoth (close_list ∷ s) (t ∷ st)) ≡ pass f (way InBoth s st)
+ends_list f s t st = step close_list f InBoth (close_list ∷ s) (t ∷ st) Closer true side_end refl
 
 module _ (os : Objects) (d : ℕ) (w : WithinObjects os d) (g : Gathers os d) where
   meet-objects : Meets (objects os) d
@@ -206,7 +207,7 @@ module _ (os : Objects) (d : ℕ) (w : WithinObjects os d) (g : Gathers os d) wh
         let hy : y ≤ largest = h.0 in
         enter (listed os) (y ∷ ws) l f s st (omega arith)
         ∙ all-dropped os d w (close_list ∷ f) (y ∷ (ws ++ close_list ∷ s)) _ (ne_eqb y open_object (omega arith))
-        ∙ step close_list f 0 (y ∷ (ws ++ close_list ∷ s)) _ Closer false side_end (ne_eqb y close_list (omega arith));
+        ∙ step close_list f InBoth (y ∷ (ws ++ close_list ∷ s)) _ Closer false side_end (ne_eqb y close_list (omega arith));
     never = λ k. differ (cc k.is);
   })
   meet-objects (objects ps) e h = go i.remains refl
@@ -215,8 +216,8 @@ module _ (os : Objects) (d : ℕ) (w : WithinObjects os d) (g : Gathers os d) wh
       i = g ps e h
 
       inside : (l : ℕ) (f s : List ℕ) (st : List (List ℕ)) → length st + 2 * d < most_brackets
-          → pass (contents (objects os) ++ f) (way 1 (field_of l (objects ps) s) st)
-          ≡ pass (close_list ∷ f) (way 0 (listed i.remains ++ close_list ∷ s) (field_of l (objects ps) s ∷ st))
+          → pass (contents (objects os) ++ f) (way Labelled (field_of l (objects ps) s) st)
+          ≡ pass (close_list ∷ f) (way InBoth (listed i.remains ++ close_list ∷ s) (field_of l (objects ps) s ∷ st))
       inside l f s st b = enter (listed os) (listed ps) l f s st (omega arith) ∙ i.runs s (close_list ∷ f) _ (omega arith)
 
       go : (k : Objects) → i.remains ≡ k → Takes (objects os) (objects ps) d e ⊎ Leaves (objects os) (objects ps) d
@@ -230,7 +231,7 @@ module _ (os : Objects) (d : ℕ) (w : WithinObjects os d) (g : Gathers os d) wh
       go (one y t) q = inr (record {
         runs = λ l f s st wl b.
             let left = open_object ∷ ((tokens y ++ close_object ∷ listed t) ++ close_list ∷ s) in
-            inside l f s st b ∙ rw q (step close_list f 0 left (field_of l (objects ps) s ∷ st) Closer false side_end refl);
+            inside l f s st b ∙ rw q (step close_list f InBoth left (field_of l (objects ps) s ∷ st) Closer false side_end refl);
         never = λ m.
             let c : i.remains ≡ none =
             i.complete (subst (λ (z : Objects). Among os z) (let z : m.inside ≡ ps = cc m.is in z) m.among) in

@@ -8,6 +8,7 @@ use native.Mathlib.Omega.{arith}
 use Rattle.rules.specs.Lists.{is_empty}
 use Rattle.tokens.specs.Response.{Response, done, field, tokens, most_open, Reading, IsResponse}
 use Rattle.shorten.specs.Strikes.{Shortened}
+use Rattle.shorten.specs.declared.Mode.TheVariants.{InBoth}
 use Rattle.shorten.proofs.Way.{way, pass, passes}
 use Rattle.shorten.proofs.Shorter.{Shorter}
 use Rattle.shorten.proofs.Closure.{strikes_shorter, shorter_strikes}
@@ -22,10 +23,10 @@ module _ {f s : List ℕ} {R S : Response} (r : Reading f R) (q : Reading s S) w
   i : Left R S most_open most_open
   i = greedy R most_open r.within S most_open q.within
 
-  remaining : pass f (way 0 s []) ≡ tokens i.remains
+  remaining : pass f (way InBoth s []) ≡ tokens i.remains
   unfolding pass
   remaining =
-      ap₂ (λ (x y : List ℕ). pass x (way 0 y [])) (sym (append-nil (tokens R) ∙ r.is)) (sym (append-nil (tokens S) ∙ q.is))
+      ap₂ (λ (x y : List ℕ). pass x (way InBoth y [])) (sym (append-nil (tokens R) ∙ r.is)) (sym (append-nil (tokens S) ∙ q.is))
       ∙ i.runs [] stops_end [] [] (omega arith)
       ∙ append-nil (tokens i.remains)
 

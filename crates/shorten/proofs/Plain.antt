@@ -13,6 +13,7 @@ use Rattle.rules.specs.Eval.{label, open_object, open_list, close_list, null as 
 use Rattle.rules.proofs.Sound.{Small}
 use Rattle.tokens.specs.Response.{value, null, values, object, objects, Objects, none, one, tokens, listed, largest_label, Within, WithinObjects}
 use Rattle.shorten.specs.Pass.{side_of, hits, most_brackets}
+use Rattle.shorten.specs.declared.Mode.TheVariants.{InBoth, Labelled}
 use Rattle.shorten.specs.declared.Side.TheVariants.{Plain, Opener, Closer}
 use Rattle.shorten.proofs.Sides.{side_value, side_null, side_begin, side_end}
 use Rattle.shorten.proofs.Way.{way, pass, step, regroup}
@@ -27,7 +28,7 @@ meet-value v d w (value y) e h = go (ℕ_discrete y v)
   where
     go : Dec (y ≡ v) → Takes (value v) (value y) d e ⊎ Leaves (value v) (value y) d
     go (yes p) = inl (record {
-      runs = λ l f s st wl b. step v f 1 (label l ∷ (y ∷ s)) st Plain true (side_value v w) (eq-eqb y v p);
+      runs = λ l f s st wl b. step v f Labelled (label l ∷ (y ∷ s)) st Plain true (side_value v w) (eq-eqb y v p);
       read = value y;
       same = refl;
       fits = h;
@@ -43,7 +44,7 @@ pub meet-null : (d : ℕ) → Meets null d
 unfolding head tokens Within Shorter
 meet-null d (value y) e h = refused null d tt (value y) e (λ s. ne_eqb y nullToken (omega arith)) (λ k. differ (cc))
 meet-null d null e h = inl (record {
-  runs = λ l f s st wl b. step nullToken f 1 (label l ∷ (nullToken ∷ s)) st Plain true side_null refl;
+  runs = λ l f s st wl b. step nullToken f Labelled (label l ∷ (nullToken ∷ s)) st Plain true side_null refl;
   read = null;
   same = refl;
   fits = tt;
@@ -56,39 +57,39 @@ meet-null d (objects ps) e h = refused null d tt (objects ps) e (λ s. refl) (λ
 -- ---- a bracket that begins in both
 
 pub push : (x : ℕ) (f s : List ℕ) (st : List (List ℕ)) → side_of x ≡ Opener → hits x (drop 1 s) ≡ true → length st < most_brackets
-    → pass (x ∷ f) (way 1 s st) ≡ pass f (way 0 (drop 2 s) (s ∷ st))
-push x f s st o h b = step x f 1 s st Opener true o h ∙ rw (lt-ltb (length st) most_brackets b)
+    → pass (x ∷ f) (way Labelled s st) ≡ pass f (way InBoth (drop 2 s) (s ∷ st))
+push x f s st o h b = step x f Labelled s st Opener true o h ∙ rw (lt-ltb (length st) most_brackets b)
 
 -- the tokens of a list
 abbrev pub in_brackets : List ℕ → List ℕ
 in_brackets xs = open_list ∷ (xs ++ close_list ∷ [])
 
 pub enter : (xs ys : List ℕ) (l : ℕ) (f s : List ℕ) (st : List (List ℕ)) → length st < most_brackets
-    → pass (in_brackets xs ++ f) (way 1 (label l ∷ (in_brackets ys ++ s)) st)
-    ≡ pass (xs ++ close_list ∷ f) (way 0 (ys ++ close_list ∷ s) ((label l ∷ (in_brackets ys ++ s)) ∷ st))
+    → pass (in_brackets xs ++ f) (way Labelled (label l ∷ (in_brackets ys ++ s)) st)
+    ≡ pass (xs ++ close_list ∷ f) (way InBoth (ys ++ close_list ∷ s) ((label l ∷ (in_brackets ys ++ s)) ∷ st))
 enter xs ys l f s st b =
     let all = label l ∷ (in_brackets ys ++ s) in
     push open_list ((xs ++ close_list ∷ []) ++ f) all st side_begin refl b
-    ∙ regroup xs (close_list ∷ []) f (way 0 ((ys ++ close_list ∷ []) ++ s) (all ∷ st))
-    ∙ ap (λ (z : List ℕ). pass (xs ++ close_list ∷ f) (way 0 z (all ∷ st))) (append_assoc ys (close_list ∷ []) s)
+    ∙ regroup xs (close_list ∷ []) f (way InBoth ((ys ++ close_list ∷ []) ++ s) (all ∷ st))
+    ∙ ap (λ (z : List ℕ). pass (xs ++ close_list ∷ f) (way InBoth z (all ∷ st))) (append_assoc ys (close_list ∷ []) s)
 
 -- ---- lists of values
 
 values_same : (f s : List ℕ) (st : List (List ℕ)) (vs : List ℕ) → Small vs → (t : List ℕ)
-    → pass (vs ++ close_list ∷ f) (way 0 (vs ++ close_list ∷ s) (t ∷ st)) ≡ pass f (way 0 s st)
-values_same f s st [] w t = step close_list f 0 (close_list ∷ s) (t ∷ st) Closer true side_end refl
+    → pass (vs ++ close_list ∷ f) (way InBoth (vs ++ close_list ∷ s) (t ∷ st)) ≡ pass f (way InBoth s st)
+values_same f s st [] w t = step close_list f InBoth (close_list ∷ s) (t ∷ st) Closer true side_end refl
 values_same f s st (v ∷ vs) w t =
-    step v (vs ++ close_list ∷ f) 0 (v ∷ (vs ++ close_list ∷ s)) (t ∷ st) Plain true (side_value v w.0) (eq-eqb v v refl)
+    step v (vs ++ close_list ∷ f) InBoth (v ∷ (vs ++ close_list ∷ s)) (t ∷ st) Plain true (side_value v w.0) (eq-eqb v v refl)
     ∙ values_same f s st vs w.1 t
 
 -- a list that is not the same: the pass goes back to the field, which stands at `label l ∷ t`
 module _ (f : List ℕ) (st : List (List ℕ)) (l : ℕ) (wl : l ≤ largest_label) (t : List ℕ) where
   lost : (vs : List ℕ) → Small vs
-      → pass (vs ++ close_list ∷ f) (way 0 (label l ∷ t) ((label l ∷ t) ∷ st)) ≡ pass f (way 0 (label l ∷ t) st)
-  lost [] w = step close_list f 0 (label l ∷ t) ((label l ∷ t) ∷ st) Closer false side_end (ne_eqb (label l) close_list (omega arith))
+      → pass (vs ++ close_list ∷ f) (way InBoth (label l ∷ t) ((label l ∷ t) ∷ st)) ≡ pass f (way InBoth (label l ∷ t) st)
+  lost [] w = step close_list f InBoth (label l ∷ t) ((label l ∷ t) ∷ st) Closer false side_end (ne_eqb (label l) close_list (omega arith))
   lost (v ∷ vs) w =
       let h : v ≤ largest = w.0 in
-      step v (vs ++ close_list ∷ f) 0 (label l ∷ t) ((label l ∷ t) ∷ st) Plain false (side_value v h) (ne_eqb (label l) v (omega arith))
+      step v (vs ++ close_list ∷ f) InBoth (label l ∷ t) ((label l ∷ t) ∷ st) Plain false (side_value v h) (ne_eqb (label l) v (omega arith))
       ∙ lost vs w.1
 
   first : List ℕ → ℕ
@@ -96,14 +97,14 @@ module _ (f : List ℕ) (st : List (List ℕ)) (l : ℕ) (wl : l ≤ largest_lab
   first (v ∷ vs) = v
 
   values_miss : (vs : List ℕ) → Small vs → (s : List ℕ) → hits (first vs) s ≡ false
-      → pass (vs ++ close_list ∷ f) (way 0 s ((label l ∷ t) ∷ st)) ≡ pass f (way 0 (label l ∷ t) st)
+      → pass (vs ++ close_list ∷ f) (way InBoth s ((label l ∷ t) ∷ st)) ≡ pass f (way InBoth (label l ∷ t) st)
   unfolding first
-  values_miss [] w s h = step close_list f 0 s ((label l ∷ t) ∷ st) Closer false side_end h
+  values_miss [] w s h = step close_list f InBoth s ((label l ∷ t) ∷ st) Closer false side_end h
   values_miss (v ∷ vs) w s h =
-      step v (vs ++ close_list ∷ f) 0 s ((label l ∷ t) ∷ st) Plain false (side_value v w.0) h ∙ lost vs w.1
+      step v (vs ++ close_list ∷ f) InBoth s ((label l ∷ t) ∷ st) Plain false (side_value v w.0) h ∙ lost vs w.1
 
   values_other : (vs : List ℕ) → Small vs → (ws : List ℕ) → Small ws → (vs ≡ ws → ⊥) → (s : List ℕ)
-      → pass (vs ++ close_list ∷ f) (way 0 (ws ++ close_list ∷ s) ((label l ∷ t) ∷ st)) ≡ pass f (way 0 (label l ∷ t) st)
+      → pass (vs ++ close_list ∷ f) (way InBoth (ws ++ close_list ∷ s) ((label l ∷ t) ∷ st)) ≡ pass f (way InBoth (label l ∷ t) st)
   unfolding first
   values_other [] w [] u n s = absurd (n refl)
   values_other [] w (y ∷ ws) u n s =
@@ -113,12 +114,12 @@ module _ (f : List ℕ) (st : List (List ℕ)) (l : ℕ) (wl : l ≤ largest_lab
   values_other (v ∷ vs) w (y ∷ ws) u n s = go (λ m. values_other vs w.1 ws u.1 m s) (ℕ_discrete y v)
     where
       go : ((vs ≡ ws → ⊥)
-          → pass (vs ++ close_list ∷ f) (way 0 (ws ++ close_list ∷ s) ((label l ∷ t) ∷ st)) ≡ pass f (way 0 (label l ∷ t) st))
+          → pass (vs ++ close_list ∷ f) (way InBoth (ws ++ close_list ∷ s) ((label l ∷ t) ∷ st)) ≡ pass f (way InBoth (label l ∷ t) st))
           → Dec (y ≡ v)
-          → pass (v ∷ (vs ++ close_list ∷ f)) (way 0 (y ∷ (ws ++ close_list ∷ s)) ((label l ∷ t) ∷ st)) ≡ pass f (way 0 (label l ∷ t) st)
+          → pass (v ∷ (vs ++ close_list ∷ f)) (way InBoth (y ∷ (ws ++ close_list ∷ s)) ((label l ∷ t) ∷ st)) ≡ pass f (way InBoth (label l ∷ t) st)
       go i (yes p) =
           let both = y ∷ (ws ++ close_list ∷ s) in
-          step v (vs ++ close_list ∷ f) 0 both ((label l ∷ t) ∷ st) Plain true (side_value v w.0) (eq-eqb y v p)
+          step v (vs ++ close_list ∷ f) InBoth both ((label l ∷ t) ∷ st) Plain true (side_value v w.0) (eq-eqb y v p)
           ∙ i (λ q. n (cc))
       go i (no p) = values_miss (v ∷ vs) w (y ∷ (ws ++ close_list ∷ s)) (ne_eqb y v p)
 

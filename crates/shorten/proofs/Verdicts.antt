@@ -1,10 +1,11 @@
 -- What each answer says, and no two answers are right; one law for each way through `judge`. Assumes nothing.
-use mathlib.Core.Path.{◌≡◌, refl, sym, subst}
+use mathlib.Core.Path.{◌≡◌, refl}
 use mathlib.Core.Logic.{◌↔◌}
 use mathlib.Core.Bool.{Bool, true, false}
 use mathlib.Core.List.{List}
 use Prim.Native.Nat.{ℕ}
 use native.Mathlib.Omega.{arith}
+use Rattle.rules.specs.Lists.{one_if}
 use Rattle.rules.specs.declared.Reply.{Reply}
 use Rattle.rules.proofs.Bools.{clash}
 use Rattle.tokens.specs.Response.{IsResponse}
@@ -76,5 +77,6 @@ told tells p = tells.0 p
 pub denied : {P : Type 0} {b : Bool} → (b ≡ true) ↔ P → b ≡ false → P → ⊥
 denied tells p h = clash (tells.1 h) p
 
-pub answers : {f s : List ℕ} {r a : Reply} → r ≡ a → Judged f s a → Judged f s r
-answers {f} {s} e j = subst (Judged f s) (sym e) j
+pub judged : {f s : List ℕ} → IsResponse f → IsResponse s → (b : Bool) → (b ≡ true) ↔ Shortened f s → Judged f s (reply_of (one_if b) 0)
+judged a b true m = says-yes (m.0 refl)
+judged a b false m = says_no a b (denied m refl)

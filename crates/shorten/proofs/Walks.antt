@@ -1,305 +1,259 @@
--- The loop of the pass: in numbers it stands where `Way` has it. Assumes nothing.
+-- The loop of the pass: it stands where `Way` has it. Assumes nothing.
 use mathlib.Core.Path.{◌≡◌, refl, sym, ap, subst, ◌∙◌}
 use mathlib.Core.Logic.{◌↔◌}
 use mathlib.Core.Bool.{Bool, true, false, cond}
 use mathlib.Core.List.{List, [], ◌∷◌}
 use Prim.Native.Nat.{ℕ, zero, suc, ◌+◌, ◌-◌, ◌≤◌, ◌<◌}
+use native.Mathlib.Numerals.{add-one}
 use native.Mathlib.Omega.{arith}
-use native.Mathlib.Decide.{dec_lt, ℕ_discrete}
 use lib.Dec.{eqb, ltb}
 use lib.ListN.{length, get_or, set, drop, drop_of_length-le, length-set}
 use lib.Seq.{drop-drop, get_or-set_same, get_or-set_other}
-use borrow.Author.Tests.{lt-ltb, le-ltb, eq-eqb, ne_eqb}
+use borrow.Author.Tests.{ltb-true, ne_eqb}
+use denote.Ref.{Bor}
+use Rattle.std.specs.Prelude.{Option, Some, None}
+use Rattle.std.specs.Bool.{then_some, ◌==◌}
+use Rattle.std.proofs.lemmas.List.{drop_more}
 use Rattle.rules.specs.Lists.{is_empty}
-use Rattle.rules.proofs.Bools.{clash}
-use Rattle.tokens.specs.Response.{most_tokens, IsResponse}
-use Rattle.tokens.proofs.Checked.{drop_more}
+use Rattle.tokens.specs.Response.{IsResponse}
 use Rattle.shorten.specs.Strikes.{Shortened}
-use Rattle.shorten.specs.Pass.{side_of, hits, most_brackets, settled, strike_of, stand, saved_for, on_side, turn_of}
+use Rattle.shorten.specs.Pass.{side_of, hits, most_brackets, found, struck, settled, strike_of, Standing, stand, shows, past_of, turn_of}
+use Rattle.shorten.specs.declared.Mode.{Mode}
+use Rattle.shorten.specs.declared.Mode.TheVariants.{InBoth, Labelled, Striking}
 use Rattle.shorten.specs.declared.Side.{Side}
 use Rattle.shorten.specs.declared.Side.TheVariants.{Plain, Named, Opener, Closer}
 use Rattle.shorten.specs.declared.Stand.{Stand}
 use Rattle.shorten.proofs.Way.{Way, way, back_to, outer, live, turned, pass, passes}
 use Rattle.shorten.proofs.Passes.{passes_exactly}
 
--- ---- the saved places
-
--- the places of the array, the innermost last, are where the saved rests begin
-abbrev Holds : List ℕ → List ℕ → List (List ℕ) → Type 0
-Holds s a [] = Unit {0}
-Holds s a (t ∷ st) = (get_or a (length st) 0 ≤ length s) × (drop (get_or a (length st) 0) s ≡ t) × Holds s a st
-
-holds-set : (s a : List ℕ) (st : List (List ℕ)) (n v : ℕ) → length st ≤ n → Holds s a st → Holds s (set a n v) st
-holds-set s a [] n v h w = tt
-holds-set s a (t ∷ st) n v h w =
-    let e : get_or (set a n v) (length st) 0 ≡ get_or a (length st) 0 = get_or-set_other a n (length st) v 0 (omega arith) in
-    (subst (λ (k : ℕ). k ≤ length s) (sym e) w.0, ap (λ (k : ℕ). drop k s) e ∙ w.1, holds-set s a st n v (omega arith) w.2)
-
--- what is saved innermost, and what is saved but for it
-record Innermost (s saved : List ℕ) (j n : ℕ) (st : List (List ℕ)) : Type 0 where
-  rest : drop (saved_for saved n j) s ≡ back_to (drop j s) st
-  inside : saved_for saved n j ≤ length s
-  depth : n - 1 ≡ length (outer st)
-  held : Holds s saved (outer st)
-
-innermost : (s saved : List ℕ) (j n : ℕ) (st : List (List ℕ)) → j ≤ length s → n ≡ length st → Holds s saved st → Innermost s saved j n st
-innermost s saved j zero [] h e w = record { rest = refl; inside = h; depth = refl; held = tt }
-innermost s saved j zero (t ∷ st) h e w = absurd (omega arith)
-innermost s saved j (suc n) [] h e w = absurd (omega arith)
-innermost s saved j (suc n) (t ∷ st) h e w =
-    let k : n ≡ length st = omega arith in
-    let first : get_or saved n 0 ≡ get_or saved (length st) 0 = ap (λ (x : ℕ). get_or saved x 0) k in
-    record {
-      rest = ap (λ (x : ℕ). drop x s) first ∙ w.1;
-      inside = subst (λ (x : ℕ). x ≤ length s) (sym first) w.0;
-      depth = omega arith;
-      held = w.2;
-    }
-
--- as the code reads it
-pub saved_for_lem : (saved : List ℕ) (n j back : ℕ) → (n ≡ 0 → ⊥) → back ≡ get_or saved (n - 1) 0 → back ≡ saved_for saved n j
-saved_for_lem saved zero j back h e = absurd (h refl)
-saved_for_lem saved (suc n) j back h e = e ∙ ap (λ (x : ℕ). get_or saved x 0) (let less : suc n - 1 ≡ n = omega arith in less)
-
-pub none_saved : (saved : List ℕ) (n j back : ℕ) → n ≡ 0 → back ≡ j → back ≡ saved_for saved n j
-none_saved saved zero j back h e = e
-none_saved saved (suc n) j back h e = absurd (omega arith)
-
 -- ---- one turn
 
--- in numbers and in rests the pass stands at the same
-record Shows (s saved : List ℕ) (w : Stand) (v : Way) : Type 0 where
-  mode : w.mode ≡ v.mode
-  left : drop w.place s ≡ v.left
-  inside : w.place ≤ length s
-  depth : w.depth ≡ length v.saved
-  room : w.depth ≤ most_brackets
-  held : Holds s saved v.saved
-
-module _
-    (s saved : List ℕ)
-    (j n : ℕ)
-    (st : List (List ℕ))
-    (size : length saved ≡ suc most_brackets)
-    (inside : j ≤ length s)
-    (depth : n ≡ length st)
-    (room : n ≤ most_brackets)
-    (held : Holds s saved st)
+-- the rest behind a token, by whether the token stands first
+past-then_some : (x : ℕ) (s : List ℕ) → past_of x s ≡ then_some (hits x s) (drop 1 s)
+past-then_some x [] = refl
+past-then_some x (y ∷ s) = go (eqb y x)
   where
-    last : Innermost s saved j n st
-    last = innermost s saved j n st inside depth held
+    go : (b : Bool) → cond b (Some s) None ≡ then_some b s
+    go true = refl
+    go false = refl
 
-    -- at another place, with no bracket more
-    shown : (m' j' n' : ℕ) (t : List ℕ) (st' : List (List ℕ)) → j' ≤ length s → drop j' s ≡ t → n' ≡ length st' → n' ≤ n → Holds s saved st'
-        → Shows s (set saved n j) (stand m' j' n') (way m' t st')
-    shown m' j' n' t st' i l d r h = record {
-      mode = refl;
-      left = l;
-      inside = i;
-      depth = d;
-      room = omega arith;
-      held = holds-set s saved st' n j (omega arith) h;
-    }
+-- what the code shows of the pass on its way
+abbrev shown : Way → Standing
+shown v = stand v.mode v.left (length v.saved)
 
-    past : (m : ℕ) → drop (j + m + 1) s ≡ drop (suc m) (drop j s)
-    past m = let e : j + suc m ≡ j + m + 1 = omega arith in ap (λ (k : ℕ). drop k s) (sym e) ∙ sym (drop-drop (suc m) j s)
+module _ (s : List ℕ) (st : List (List ℕ)) where
+  outer-length : length st - 1 ≡ length (outer st)
+  outer-length = go st
+    where
+      go : (u : List (List ℕ)) → length u - 1 ≡ length (outer u)
+      go [] = omega arith
+      go (t ∷ u) = omega arith
 
-    -- a bracket more that stands in both
-    pushed : (m : ℕ) → j + m < length s → n < most_brackets
-        → Shows s (set saved n j) (stand 0 (j + m + 1) (n + 1)) (way 0 (drop (suc m) (drop j s)) (drop j s ∷ st))
-    pushed m h r =
-        let here : get_or (set saved n j) (length st) 0 ≡ j =
-        ap (λ (k : ℕ). get_or (set saved n j) k 0) (sym depth) ∙ get_or-set_same saved n j 0 (omega arith) in
-        record {
-          mode = refl;
-          left = past m;
-          inside = omega arith;
-          depth = omega arith;
-          room = omega arith;
-          held = (
-            subst (λ (k : ℕ). k ≤ length s) (sym here) inside,
-            ap (λ (k : ℕ). drop k s) here,
-            holds-set s saved st n j (omega arith) held,
-          );
-        }
+  opened : (b : Bool) (t : List ℕ)
+      → cond b (stand InBoth t (length st + 1)) (stand (Striking 1) s (length st)) ≡ shown (cond b (way InBoth t (s ∷ st)) (way (Striking 1) s st))
+  opened true t = ap (λ (n : ℕ). stand InBoth t n) (add-one (length st))
+  opened false t = refl
 
-    opens : (m : ℕ) → j + m < length s
-        → Shows s (set saved n j) (on_side Opener true m j n (saved_for saved n j)) (live Opener true m (drop j s) st)
-    opens m h = go (dec_lt n most_brackets)
+  lives : (d : Side) (b : Bool) (m : Mode)
+      → turn_of d (then_some b (drop (suc (found m)) s)) (stand m s (length st)) (back_to s st) ≡ shown (turned d b m s st)
+  lives Plain true InBoth = refl
+  lives Plain true Labelled = refl
+  lives Plain false InBoth = refl
+  lives Plain false Labelled = refl
+  lives Named true InBoth = refl
+  lives Named true Labelled = refl
+  lives Named false InBoth = refl
+  lives Named false Labelled = refl
+  lives Opener true InBoth = opened (ltb (length st) most_brackets) (drop 1 s)
+  lives Opener true Labelled = opened (ltb (length st) most_brackets) (drop 2 s)
+  lives Opener false InBoth = refl
+  lives Opener false Labelled = refl
+  lives Closer true InBoth = ap (stand InBoth (drop 1 s)) outer-length
+  lives Closer true Labelled = ap (stand InBoth (drop 2 s)) outer-length
+  lives Closer false InBoth = ap (stand InBoth (back_to s st)) outer-length
+  lives Closer false Labelled = ap (stand InBoth (back_to s st)) outer-length
+  lives Plain b (Striking k) = refl
+  lives Named b (Striking k) = refl
+  lives Opener b (Striking k) = refl
+  lives Closer b (Striking k) = refl
+
+-- ---- the saved rests
+
+-- those of the array are those of the open brackets, the innermost last
+abbrev Holds : List (Bor (List ℕ)) → List (List ℕ) → Type 0
+Holds a [] = Unit {0}
+Holds a (t ∷ st) = ((d : Bor (List ℕ)) → (get_or a (length st) d).now ≡ t) × Holds a st
+
+module _ (a : List (Bor (List ℕ))) (n : ℕ) (r : Bor (List ℕ)) (size : length a ≡ suc most_brackets) where
+  holds-set : (st : List (List ℕ)) → length st ≤ n → Holds a st → Holds (set a n r) st
+  holds-set [] h w = tt
+  holds-set (t ∷ st) h w =
+      (λ d. ap (λ (x : Bor (List ℕ)). x.now) (get_or-set_other a n (length st) r d (omega arith)) ∙ w.0 d, holds-set st (omega arith) w.1)
+
+  holds-outer : (st : List (List ℕ)) → length st ≤ n → Holds a st → Holds (set a n r) (outer st)
+  holds-outer [] h w = tt
+  holds-outer (t ∷ st) h w = holds-set st (omega arith) w.1
+
+  holds-pushed : (st : List (List ℕ)) → n ≡ length st → n ≤ most_brackets → Holds a st → Holds (set a n r) (r.now ∷ st)
+  holds-pushed st e h w = (
+    λ d. ap (λ (k : ℕ). (get_or (set a n r) k d).now) (sym e) ∙ ap (λ (x : Bor (List ℕ)). x.now) (get_or-set_same a n r d (omega arith)),
+    holds-set st (omega arith) w,
+  )
+
+  -- what holds of the saved rests of a turn
+  record Kept (st : List (List ℕ)) : Type 0 where
+    held : Holds (set a n r) st
+    room : length st ≤ most_brackets
+
+  module _ (st : List (List ℕ)) (depth : n ≡ length st) (room : n ≤ most_brackets) (w : Holds a st) where
+    stays : Kept st
+    stays = record { held = holds-set st (omega arith) w; room = omega arith }
+
+    leaves : Kept (outer st)
+    leaves = record { held = holds-outer st (omega arith) w; room = go st (omega arith) }
       where
-        go : Dec (n < most_brackets) → Shows s (set saved n j) (on_side Opener true m j n (saved_for saved n j)) (live Opener true m (drop j s) st)
-        go (yes p) = rw (lt-ltb n most_brackets p, lt-ltb (length st) most_brackets (omega arith)) (pushed m h p)
-        go (no p) =
-            rw (le-ltb n most_brackets (omega arith), le-ltb (length st) most_brackets (omega arith))
-            (shown 3 j n (drop j s) st inside refl depth (omega arith) held)
+        go : (u : List (List ℕ)) → length u ≤ most_brackets → length (outer u) ≤ most_brackets
+        go [] h = h
+        go (t ∷ u) h = omega arith
 
-    lives : (d : Side) (b : Bool) (m : ℕ) → (b ≡ true → j + m < length s)
-        → Shows s (set saved n j) (on_side d b m j n (saved_for saved n j)) (live d b m (drop j s) st)
-    lives Plain true m h = let i = h refl in shown 0 (j + m + 1) n _ st (omega arith) (past m) depth (omega arith) held
-    lives Plain false zero h = shown 0 (saved_for saved n j) n _ st last.inside last.rest depth (omega arith) held
-    lives Plain false (suc m) h = shown 0 j n _ st inside refl depth (omega arith) held
-    lives Named true m h = shown 1 j n _ st inside refl depth (omega arith) held
-    lives Named false m h = shown 2 j n _ st inside refl depth (omega arith) held
-    lives Opener true m h = opens m (h refl)
-    lives Opener false m h = shown 3 j n _ st inside refl depth (omega arith) held
-    lives Closer true m h =
-        let i = h refl in shown 0 (j + m + 1) (n - 1) _ (outer st) (omega arith) (past m) last.depth (omega arith) last.held
-    lives Closer false m h =
-        shown 0 (saved_for saved n j) (n - 1) _ (outer st) last.inside last.rest last.depth (omega arith) last.held
+    opens : (b : Bool) (t : List ℕ) → ltb (length st) most_brackets ≡ b → Kept (cond b (way InBoth t (r.now ∷ st)) (way (Striking 1) r.now st)).saved
+    opens true t h =
+        let low : length st < most_brackets = ltb-true _ _ h in
+        record { held = holds-pushed st depth room w; room = omega arith }
+    opens false t h = stays
 
-    turns : (d : Side) (b : Bool) (m : ℕ) → (b ≡ true → j + m < length s)
-        → Shows s (set saved n j) (turn_of d b (stand m j n) (saved_for saved n j)) (turned d b m (drop j s) st)
-    turns d b zero h = lives d b 0 h
-    turns d b (suc zero) h = lives d b 1 h
-    turns d b (suc (suc k)) h =
-        let e : suc (suc k) - 2 ≡ k = omega arith in
-        rw (le-ltb (suc (suc k)) 2 (omega arith), e) (shown (strike_of d k) j n _ st inside refl depth (omega arith) held)
+    keeps : (d : Side) (b : Bool) (m : Mode) → Kept (live d b m r.now st).saved
+    keeps Plain true m = stays
+    keeps Plain false m = stays
+    keeps Named true m = stays
+    keeps Named false m = stays
+    keeps Opener true m = opens (ltb (length st) most_brackets) (drop (suc (found m)) r.now) refl
+    keeps Opener false m = stays
+    keeps Closer true m = leaves
+    keeps Closer false m = leaves
 
--- ---- modes stay low
+    turn-keeps : (d : Side) (b : Bool) (m : Mode) → Kept (turned d b m r.now st).saved
+    turn-keeps d b InBoth = keeps d b InBoth
+    turn-keeps d b Labelled = keeps d b Labelled
+    turn-keeps d b (Striking k) = stays
 
-settled-low : (k : ℕ) → settled k ≤ k + 2
+-- the innermost one
+none_saved : (st : List (List ℕ)) (s : List ℕ) → length st ≡ 0 → s ≡ back_to s st
+none_saved [] s h = refl
+none_saved (t ∷ st) s h = absurd (omega arith)
+
+some_saved : (a : List (Bor (List ℕ))) (st : List (List ℕ)) (s : List ℕ) (d : Bor (List ℕ)) → Holds a st → (length st ≡ 0 → ⊥)
+    → (get_or a (length st - 1) d).now ≡ back_to s st
+some_saved a [] s d w h = absurd (h refl)
+some_saved a (t ∷ st) s d w h =
+    ap (λ (k : ℕ). (get_or a k d).now) (let less : suc (length st) - 1 ≡ length st = omega arith in less) ∙ w.0 d
+
+-- ---- of what is struck out no more brackets are open than tokens were passed
+
+settled-low : (k : ℕ) → struck (settled k) ≤ k
 settled-low zero = omega arith
 settled-low (suc k) = omega arith
 
-strike-low : (d : Side) (k : ℕ) → strike_of d k ≤ k + 3
+strike-low : (d : Side) (k : ℕ) → struck (strike_of d k) ≤ k + 1
 strike-low Plain k = omega (arith, settled-low k)
 strike-low Named k = omega (arith, settled-low k)
 strike-low Opener k = omega arith
 strike-low Closer zero = omega arith
 strike-low Closer (suc k) = omega (arith, settled-low k)
 
-opened-low : (b : Bool) (s t : List ℕ) (st : List (List ℕ)) → (cond b (way 0 t (s ∷ st)) (way 3 s st)).mode ≤ 3
+opened-low : (b : Bool) (s t : List ℕ) (st : List (List ℕ)) → struck (cond b (way InBoth t (s ∷ st)) (way (Striking 1) s st)).mode ≤ 1
 opened-low true s t st = omega arith
 opened-low false s t st = omega arith
 
-live-low : (d : Side) (b : Bool) (m : ℕ) (s : List ℕ) (st : List (List ℕ)) → (live d b m s st).mode ≤ 3
+live-low : (d : Side) (b : Bool) (m : Mode) (s : List ℕ) (st : List (List ℕ)) → struck (live d b m s st).mode ≤ 1
 live-low Plain true m s st = omega arith
 live-low Plain false m s st = omega arith
 live-low Named true m s st = omega arith
 live-low Named false m s st = omega arith
-live-low Opener true m s st = opened-low (ltb (length st) most_brackets) s (drop (suc m) s) st
+live-low Opener true m s st = opened-low (ltb (length st) most_brackets) s (drop (suc (found m)) s) st
 live-low Opener false m s st = omega arith
 live-low Closer true m s st = omega arith
 live-low Closer false m s st = omega arith
 
-turned-low : (d : Side) (b : Bool) (m i : ℕ) (s : List ℕ) (st : List (List ℕ)) → m ≤ i + 2 → (turned d b m s st).mode ≤ i + 1 + 2
-turned-low d b zero i s st h = omega (arith, live-low d b 0 s st)
-turned-low d b (suc zero) i s st h = omega (arith, live-low d b 1 s st)
-turned-low d b (suc (suc k)) i s st h = omega (arith, strike-low d k)
+turned-low : (d : Side) (b : Bool) (m : Mode) (i : ℕ) (s : List ℕ) (st : List (List ℕ)) → struck m ≤ i
+    → struck (turned d b m s st).mode ≤ i + 1
+turned-low d b InBoth i s st h = omega (arith, live-low d b InBoth s st)
+turned-low d b Labelled i s st h = omega (arith, live-low d b Labelled s st)
+turned-low d b (Striking k) i s st h = omega (arith, strike-low d k)
 
 -- ---- the loop
 
-pub record At (f s saved : List ℕ) (w : Stand) (i : ℕ) : Type 0 where
+pub record At (f s : List ℕ) (saved : List (Bor (List ℕ))) (w : Stand) (i : ℕ) : Type 0 where
   pub first : IsResponse f
   pub second : IsResponse s
   pub st : List (List ℕ)
   pub size : length saved ≡ suc most_brackets
   pub seen : i ≤ length f
-  pub inside : w.place ≤ length s
   pub depth : w.depth ≡ length st
   pub room : w.depth ≤ most_brackets
-  pub held : Holds s saved st
-  pub shallow : w.mode ≤ i + 2
-  pub same : pass (drop i f) (way w.mode (drop w.place s) st) ≡ pass f (way 0 s [])
+  pub held : Holds saved st
+  pub shallow : struck w.mode ≤ i
+  pub same : pass (drop i f) (way w.mode w.rest.now st) ≡ pass f (way InBoth s [])
 
-pub begins : (f s saved : List ℕ) (w : Stand) → IsResponse f → IsResponse s → length saved ≡ suc most_brackets → w ≡ stand 0 0 0
-    → At f s saved w 0
-begins f s saved w a b h e = subst (λ (x : Stand). At f s saved x 0) (sym e) (record {
-  first = a;
-  second = b;
-  st = [];
-  size = h;
-  seen = omega arith;
-  inside = omega arith;
-  depth = refl;
-  room = omega arith;
-  held = tt;
-  shallow = omega arith;
-  same = refl;
-})
+length-empty : (s : List ℕ) → (length s == 0) ≡ is_empty s
+length-empty [] = refl
+length-empty (x ∷ s) = ne_eqb (suc (length s)) 0 (omega arith)
 
-hits-inside : (x o : ℕ) (s : List ℕ) → hits x (drop o s) ≡ true → o < length s
-hits-inside x o s h = go (dec_lt o (length s))
-  where
-    go : Dec (o < length s) → o < length s
-    go (yes p) = p
-    go (no n) = absurd (clash h (ap (hits x) (drop_of_length-le s {i = o} (omega arith))))
-
-module _ {f s saved : List ℕ} {w : Stand} {i : ℕ} (at : At f s saved w i) where
+module _ {f s : List ℕ} {saved : List (Bor (List ℕ))} {w : Stand} {i : ℕ} (at : At f s saved w i) where
   -- one token more of the full response
-  pass-more : i < length f → (d : Side) (b : Bool) → d ≡ side_of (get_or f i 0) → b ≡ hits (get_or f i 0) (drop (w.place + w.mode) s)
-      → pass (drop (i + 1) f) (turned d b w.mode (drop w.place s) at.st) ≡ pass f (way 0 s [])
+  pass-more : i < length f → (d : Side) → d ≡ side_of (get_or f i 0)
+      → pass (drop (i + 1) f) (turned d (hits (get_or f i 0) (drop (found w.mode) w.rest.now)) w.mode w.rest.now at.st) ≡ pass f (way InBoth s [])
   unfolding pass
-  pass-more h d b e k =
-      rw (e, k, ← drop-drop w.mode w.place s)
-      (ap (λ (z : List ℕ). pass z (way w.mode (drop w.place s) at.st)) (sym (drop_more f i h)) ∙ at.same)
+  pass-more h d e =
+      rw e (ap (λ (z : List ℕ). pass z (way w.mode w.rest.now at.st)) (sym (drop_more f i 0 h)) ∙ at.same)
 
-  reached : i < length f → (saved' : List ℕ) (w' : Stand) (v : Way) → length saved' ≡ suc most_brackets → Shows s saved' w' v
-      → v.mode ≤ i + 1 + 2
-      → pass (drop (i + 1) f) v ≡ pass f (way 0 s [])
-      → At f s saved' w' (i + 1)
-  reached h saved' w' v z t low e =
-      let stands : way w'.mode (drop w'.place s) v.saved ≡ v = rw (t.mode, t.left) in
+  pub next : i < length f → (d : Side) (n : List ℕ) (p : Option (List ℕ)) (back : List ℕ) (w' : Stand) → d ≡ side_of (get_or f i 0)
+      → n ≡ drop (found w.mode) w.rest.now
+      → p ≡ past_of (get_or f i 0) n
+      → back ≡ back_to w.rest.now at.st
+      → shows w' ≡ turn_of d p (shows w) back
+      → At f s (set saved w.depth w.rest) w' (i + 1)
+  next h d n p back w' e z k u q =
+      let b : Bool = hits (get_or f i 0) (drop (found w.mode) w.rest.now) in
+      let v : Way = turned d b w.mode w.rest.now at.st in
+      let past : p ≡ then_some b (drop (suc (found w.mode)) w.rest.now) =
+      k ∙ ap (past_of (get_or f i 0)) z ∙ past-then_some (get_or f i 0) (drop (found w.mode) w.rest.now)
+      ∙ ap (then_some b) (drop-drop 1 (found w.mode) w.rest.now ∙ ap (λ (j : ℕ). drop j w.rest.now) (add-one (found w.mode))) in
+      let there : shows w' ≡ shown v =
+      q ∙ ap (λ (o : Option (List ℕ)). turn_of d o (shows w) back) past
+      ∙ ap (λ (x : List ℕ). turn_of d (then_some b (drop (suc (found w.mode)) w.rest.now)) (shows w) x) u
+      ∙ ap (λ (x : ℕ). turn_of d (then_some b (drop (suc (found w.mode)) w.rest.now)) (stand w.mode w.rest.now x) (back_to w.rest.now at.st)) at.depth
+      ∙ lives w.rest.now at.st d b w.mode in
+      let kept = turn-keeps saved w.depth w.rest at.size at.st at.depth at.room at.held d b w.mode in
       record {
         first = at.first;
         second = at.second;
         st = v.saved;
-        size = z;
+        size = length-set saved w.depth w.rest ∙ at.size;
         seen = omega arith;
-        inside = t.inside;
-        depth = t.depth;
-        room = t.room;
-        held = t.held;
-        shallow = subst (λ (m : ℕ). m ≤ i + 1 + 2) (sym t.mode) low;
-        same = ap (pass (drop (i + 1) f)) stands ∙ e;
+        depth = ap (λ (x : Standing). x.depth) there;
+        room = let e' : w'.depth ≡ length v.saved = ap (λ (x : Standing). x.depth) there in let low : length v.saved ≤ most_brackets = kept.room in omega arith;
+        held = kept.held;
+        shallow = subst (λ (x : Standing). struck x.mode ≤ i + 1) (sym there) (turned-low d b w.mode i w.rest.now at.st at.shallow);
+        same = ap (λ (x : Standing). pass (drop (i + 1) f) (way x.mode x.rest v.saved)) there ∙ pass-more h d e;
       }
 
-  pub next : i < length f → (d : Side) (b : Bool) (back : ℕ) (w' : Stand) → d ≡ side_of (get_or f i 0)
-      → b ≡ hits (get_or f i 0) (drop (w.place + w.mode) s)
-      → back ≡ saved_for saved w.depth w.place
-      → w' ≡ turn_of d b w back
-      → At f s (set saved w.depth w.place) w' (i + 1)
-  next h d b back w' e k u q =
-      let there =
-      reached h (set saved w.depth w.place) (turn_of d b w (saved_for saved w.depth w.place))
-      (turned d b w.mode (drop w.place s) at.st)
-      (length-set saved w.depth w.place ∙ at.size)
-      (turns s saved w.place w.depth at.st at.size at.inside at.depth at.room at.held d b w.mode
-      (λ p. hits-inside (get_or f i 0) (w.place + w.mode) s (sym k ∙ p)))
-      (turned-low d b w.mode i (drop w.place s) at.st at.shallow)
-      (pass-more h d b e k) in
-      subst (λ (x : Stand). At f s (set saved w.depth w.place) x (i + 1)) (sym (q ∙ ap (turn_of d b w) u)) there
+  -- where to go back to, as the code reads it
+  pub back-none : (back : Bor (List ℕ)) → w.depth ≡ 0 → back ≡ w.rest → back.now ≡ back_to w.rest.now at.st
+  back-none back h e = ap (λ (x : Bor (List ℕ)). x.now) e ∙ none_saved at.st w.rest.now (sym at.depth ∙ h)
 
-  -- what a turn asks
-  pub turn-asks : (w.mode - 2 ≤ most_tokens) × (w.place ≤ most_tokens)
-  turn-asks =
-      let few : length f ≤ most_tokens = at.first.1.few in
-      let few-short : length s ≤ most_tokens = at.second.1.few in
-      (omega (arith, at.shallow, at.seen), omega (arith, at.inside))
+  pub back-some : (back d : Bor (List ℕ)) → (w.depth ≡ 0 → ⊥) → back ≡ get_or saved (w.depth - 1) d → back.now ≡ back_to w.rest.now at.st
+  back-some back d h e =
+      ap (λ (x : Bor (List ℕ)). x.now) e
+      ∙ ap (λ (k : ℕ). (get_or saved (k - 1) d).now) at.depth
+      ∙ some_saved saved at.st w.rest.now d at.held (λ z. h (at.depth ∙ z))
 
   -- at the end
-  over : length f ≤ i → drop w.place s ≡ pass f (way 0 s [])
+  over : length f ≤ i → w.rest.now ≡ pass f (way InBoth s [])
   unfolding pass
-  over h = ap (λ (z : List ℕ). pass z (way w.mode (drop w.place s) at.st)) (sym (drop_of_length-le f h)) ∙ at.same
+  over h = ap (λ (z : List ℕ). pass z (way w.mode w.rest.now at.st)) (sym (drop_of_length-le f h)) ∙ at.same
 
-drop-nil : (s : List ℕ) (j : ℕ) → j ≤ length s → is_empty (drop j s) ≡ true → j ≡ length s
-drop-nil [] zero h p = refl
-drop-nil [] (suc j) h p = absurd (omega arith)
-drop-nil (x ∷ s) zero h p = absurd (clash p refl)
-drop-nil (x ∷ s) (suc j) h p = ap suc (drop-nil s j (omega arith) p)
-
-module _ {f s saved : List ℕ} {w : Stand} {i : ℕ} (at : At f s saved w i) (h : length f ≤ i) where
-  ends : eqb w.place (length s) ≡ passes f s
-  ends = go (ℕ_discrete w.place (length s)) (passes f s) refl
-    where
-      go : Dec (w.place ≡ length s) → (b : Bool) → passes f s ≡ b → eqb w.place (length s) ≡ passes f s
-      go (yes e) b p =
-          eq-eqb w.place (length s) e ∙ sym (ap is_empty (sym (over at h) ∙ drop_of_length-le s {i = w.place} (omega arith)))
-      go (no n) true p = absurd (n (drop-nil s w.place at.inside (ap is_empty (over at h) ∙ p)))
-      go (no n) false p = ne_eqb w.place (length s) n ∙ sym p
-
-  pub decides : (eqb w.place (length s) ≡ true) ↔ Shortened f s
-  decides = (
-    λ t. (passes_exactly at.first at.second).0 (sym ends ∙ t),
-    λ m. ends ∙ (passes_exactly at.first at.second).1 m,
-  )
+  pub decides : length f ≤ i → (b : Bool) → b ≡ (length w.rest.now == 0) → (b ≡ true) ↔ Shortened f s
+  decides h b e =
+      let says : b ≡ passes f s = e ∙ length-empty w.rest.now ∙ ap is_empty (over h) in
+      (λ t. (passes_exactly at.first at.second).0 (sym says ∙ t), λ m. says ∙ (passes_exactly at.first at.second).1 m)

@@ -1,8 +1,11 @@
 -- The pass over the full response as the code makes it, one token after another, and its turns; `proofs/Passes` shows that nothing is
 -- left exactly when the second response is made from the first. Assumes nothing.
-use Rattle.std.specs.Prelude.{Bool, true, false, cond, List, [], ◌∷◌, ℕ, zero, suc, ◌+◌, ◌-◌, get_or, eqb, ltb}
+use Rattle.std.specs.Prelude.{Bool, false, cond, List, [], ◌∷◌, ℕ, zero, suc, ◌+◌, ◌-◌, eqb, ltb, Option, Some, None}
+use Rattle.std.specs.Option.{unwrap_or}
 use Rattle.rules.specs.Eval.{open_object, close_object, open_list, close_list}
 use Rattle.tokens.specs.Check.{is_label}
+use Rattle.shorten.specs.declared.Mode.{Mode}
+use Rattle.shorten.specs.declared.Mode.TheVariants.{InBoth, Labelled, Striking}
 use Rattle.shorten.specs.declared.Side.{Side}
 use Rattle.shorten.specs.declared.Side.TheVariants.{Plain, Named, Opener, Closer}
 use Rattle.shorten.specs.declared.Stand.{Stand}
@@ -25,57 +28,82 @@ hits x (y ∷ s) = eqb y x
 abbrev pub most_brackets : ℕ
 most_brackets = 33
 
--- Modes: 0 in a bracket that stands in both, 1 behind a label that the rest begins with, 2 behind another label, and 2 + k where k
--- brackets are open in what is struck out.
+-- How many tokens of the rest are found already: a label whose content comes.
+abbrev pub found : Mode → ℕ
+found InBoth = 0
+found Labelled = 1
+found (Striking k) = 0
+
+-- How many brackets are open in what is struck out.
+abbrev pub struck : Mode → ℕ
+struck InBoth = 0
+struck Labelled = 0
+struck (Striking k) = k
 
 -- The mode where k brackets are open in what is struck out, behind a content.
-abbrev pub settled : ℕ → ℕ
-settled zero = 0
-settled (suc k) = suc (suc (suc k))
+abbrev pub settled : ℕ → Mode
+settled zero = InBoth
+settled (suc k) = Striking (suc k)
 
 -- The mode behind a token of what is struck out, of which k brackets were open.
-abbrev pub strike_of : Side → ℕ → ℕ
+abbrev pub strike_of : Side → ℕ → Mode
 strike_of Plain k = settled k
 strike_of Named k = settled k
-strike_of Opener k = suc (suc (suc k))
-strike_of Closer zero = 0
+strike_of Opener k = Striking (suc k)
+strike_of Closer zero = InBoth
 strike_of Closer (suc k) = settled k
 
--- ---- where the pass stands, in numbers
+-- ---- where the pass stands
 
-abbrev pub stand : ℕ → ℕ → ℕ → Stand
-stand m j n = record { mode = m; place = j; depth = n }
+-- What the code's `Stand` shows: the mode, the rest of the shortened response, and how many brackets are open that stand in both.
+pub record Standing : Type 0 where
+  pub mode : Mode
+  pub rest : List ℕ
+  pub depth : ℕ
 
--- The place that is saved innermost.
-abbrev pub saved_for : List ℕ → ℕ → ℕ → ℕ
-saved_for saved zero j = j
-saved_for saved (suc n) j = get_or saved n 0
+abbrev pub stand : Mode → List ℕ → ℕ → Standing
+stand m s n = record { mode = m; rest = s; depth = n }
 
--- One turn where nothing is being struck out: the token hits what stands in the shortened sequence, or it does not.
-abbrev pub on_plain : Bool → ℕ → ℕ → ℕ → ℕ → Stand
-on_plain true m j n back = stand 0 (j + m + 1) n
-on_plain false zero j n back = stand 0 back n
-on_plain false (suc m) j n back = stand 0 j n
+abbrev pub shows : Stand → Standing
+shows w = stand w.mode w.rest.now w.depth
 
-abbrev pub on_named : Bool → ℕ → ℕ → Stand
-on_named true j n = stand 1 j n
-on_named false j n = stand 2 j n
+-- What follows x in s, where x stands first.
+abbrev pub past_of : ℕ → List ℕ → Option (List ℕ)
+past_of x [] = None
+past_of x (y ∷ s) = cond (eqb y x) (Some s) None
 
-abbrev pub on_opener : Bool → ℕ → ℕ → ℕ → Stand
-on_opener true m j n = cond (ltb n most_brackets) (stand 0 (j + m + 1) (n + 1)) (stand 3 j n)
-on_opener false m j n = stand 3 j n
+-- The rest behind a value or null that it does not have: a content is another, or a list of values is.
+abbrev pub missed_at : Mode → List ℕ → List ℕ → List ℕ
+missed_at InBoth s back = back
+missed_at Labelled s back = s
+missed_at (Striking k) s back = s
 
-abbrev pub on_closer : Bool → ℕ → ℕ → ℕ → ℕ → Stand
-on_closer true m j n back = stand 0 (j + m + 1) (n - 1)
-on_closer false m j n back = stand 0 back (n - 1)
+-- One turn where nothing is being struck out: `past` is the rest behind the token, where it has it.
+abbrev pub on_plain : Option (List ℕ) → Standing → List ℕ → Standing
+on_plain past w back = stand InBoth (unwrap_or past (missed_at w.mode w.rest back)) w.depth
 
-abbrev pub on_side : Side → Bool → ℕ → ℕ → ℕ → ℕ → Stand
-on_side Plain b m j n back = on_plain b m j n back
-on_side Named b m j n back = on_named b j n
-on_side Opener b m j n back = on_opener b m j n
-on_side Closer b m j n back = on_closer b m j n back
+abbrev pub on_named : Option (List ℕ) → Standing → Standing
+on_named None w = stand (Striking 0) w.rest w.depth
+on_named (Some s) w = stand Labelled w.rest w.depth
+
+abbrev pub on_opener : Option (List ℕ) → Standing → Standing
+on_opener None w = stand (Striking 1) w.rest w.depth
+on_opener (Some s) w = cond (ltb w.depth most_brackets) (stand InBoth s (w.depth + 1)) (stand (Striking 1) w.rest w.depth)
+
+abbrev pub on_closer : Option (List ℕ) → Standing → List ℕ → Standing
+on_closer past w back = stand InBoth (unwrap_or past back) (w.depth - 1)
+
+abbrev pub on_side : Side → Option (List ℕ) → Standing → List ℕ → Standing
+on_side Plain past w back = on_plain past w back
+on_side Named past w back = on_named past w
+on_side Opener past w back = on_opener past w
+on_side Closer past w back = on_closer past w back
 
 -- One turn.
-abbrev pub turn_of : Side → Bool → Stand → ℕ → Stand
-turn_of d b w back =
-    cond (ltb w.mode 2) (on_side d b w.mode w.place w.depth back) (stand (strike_of d (w.mode - 2)) w.place w.depth)
+abbrev pub turn_by : Mode → Side → Option (List ℕ) → Standing → List ℕ → Standing
+turn_by InBoth d past w back = on_side d past w back
+turn_by Labelled d past w back = on_side d past w back
+turn_by (Striking k) d past w back = stand (strike_of d k) w.rest w.depth
+
+abbrev pub turn_of : Side → Option (List ℕ) → Standing → List ℕ → Standing
+turn_of d past w back = turn_by w.mode d past w back

@@ -3,12 +3,13 @@ use Prim.Native.Nat.{ℕ, ◌+◌, ◌*◌, ◌-◌, ◌≤◌, ◌<◌}
 use native.Mathlib.Nat.{zero-add, mul-zero, mul-add, mul-one}
 use native.Mathlib.Decide.{dec_lt, ℕ_discrete}
 use native.Mathlib.Omega.{arith}
-use mathlib.Core.Path.{◌≡◌, refl, sym, ap, ◌∙◌}
-use mathlib.Core.List.{List, [], ◌∷◌, ◌++◌, map, append-nil}
+use mathlib.Core.Path.{◌≡◌, refl, sym, ap, ap₂, ◌∙◌}
+use mathlib.Core.List.{List, [], ◌∷◌, ◌++◌, map}
 use lib.Dec.{eqb}
-use lib.ListN.{length, get_or, drop, set, replicate, length-set, length-take, length-drop, length-map, length-replicate}
-use lib.ListN.{get_or-replicate, replicate-append-replicate, drop_of_length-le}
-use lib.Seq.{ext_get_or, get_or-take, get_or-drop, get_or-set_same, get_or-set_other}
+use lib.ListN.{length, get_or, take, drop, set, replicate, length-set, length-take, length-drop, length-map, length-replicate}
+use lib.ListN.{get_or-replicate}
+use lib.Seq.{drop-drop, ext_get_or, get_or-take, get_or-drop, get_or-set_same, get_or-set_other}
+use borrow.Rule.Slice.PartMut.{put_mid}
 use borrow.Author.Tests.{eq-eqb, ne_eqb}
 use Rattle.rules.specs.Lists.{times, count_up, one_if}
 use Rattle.rules.specs.World.{World}
@@ -18,10 +19,10 @@ use Rattle.rules.proofs.Size.{length-count_up}
 use Rattle.rules.proofs.Sums.{Below}
 use Rattle.rules.proofs.Visited.{get_or_up}
 use Rattle.tables.specs.Layout.{laid}
-use Rattle.tables.proofs.Laid.{laid-length, laid_in, laid-before, laid-behind, laid_more}
+use Rattle.tables.proofs.Laid.{laid-length, laid_in, laid-before, laid-behind}
 use Rattle.sizing.specs.Measure.{row_in, pushed}
 
--- ---- a row cleared number by number
+-- ---- a row cleared
 
 abbrev pub zeros : ℕ → List ℕ
 zeros n = replicate n 0
@@ -29,31 +30,17 @@ zeros n = replicate n 0
 pub zeros-length : (n : ℕ) → length (zeros n) ≡ n
 zeros-length n = length-replicate n 0
 
-pub zeroed-on : (b i : ℕ) (l m : List ℕ) → m ≡ laid b (zeros i) l → b + i < length l
-    → set m (b + i) 0 ≡ laid b (zeros (i + 1)) l
-zeroed-on b i l m e h =
-    let n = zeros-length i in
-    let q : b + length (zeros i) ≡ b + i = omega arith in
-    ap (λ (x : List ℕ). set x (b + i) 0) e
-    ∙ ap (λ (j : ℕ). set (laid b (zeros i) l) j 0) (sym q)
-    ∙ sym (laid_more b (zeros i) l 0 (omega arith))
-    ∙ ap (λ (x : List ℕ). laid b x l) (replicate-append-replicate i 1 0)
-
-pub zeroed-all : (b i n : ℕ) (l m : List ℕ) → m ≡ laid b (zeros i) l → i ≤ n → n ≤ i → m ≡ laid b (zeros n) l
-zeroed-all b i n l m e h k =
-    let q : i ≡ n = omega arith in
-    e ∙ ap (λ (j : ℕ). laid b (zeros j) l) q
+-- z is what a part of n numbers, from place b on, holds once it is filled with zeros
+pub part_zeroed : (b j k n : ℕ) (l z : List ℕ) → j ≡ n → k ≡ n → z ≡ zeros k → put_mid b j l z ≡ laid b (zeros n) l
+unfolding laid
+part_zeroed b j k n l z s t e =
+    let row : z ≡ zeros n = e ∙ ap zeros t in
+    let behind : drop j (drop b l) ≡ drop (b + length (zeros n)) l =
+    drop-drop j b l ∙ ap (λ (i : ℕ). drop i l) (omega (arith, zeros-length n)) in
+    ap₂ (λ (x y : List ℕ). take b l ++ (x ++ y)) row behind
 
 pub zeroed-length : (b n : ℕ) (l m : List ℕ) → m ≡ laid b (zeros n) l → b + n ≤ length l → length m ≡ length l
 zeroed-length b n l m e h = ap length e ∙ laid-length b (zeros n) l (omega (arith, zeros-length n))
-
--- the whole area cleared
-pub zeroed-whole : (l m : List ℕ) → m ≡ laid 0 (zeros (length l)) l → m ≡ zeros (length l)
-unfolding laid
-zeroed-whole l m e =
-    let r = zeros (length l) in
-    let h : length l ≤ 0 + length r = omega (arith, zeros-length (length l)) in
-    e ∙ ap (λ (x : List ℕ). r ++ x) (drop_of_length-le l h) ∙ append-nil r
 
 -- ---- a row read
 

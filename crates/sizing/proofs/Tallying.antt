@@ -1,6 +1,6 @@
 -- The tally, and the own tokens of an entry at a node. Assumes nothing.
-use Prim.Native.Nat.{ℕ, zero, suc, ◌+◌, ◌*◌, ◌^◌, ◌≤◌, ◌<◌}
-use native.Mathlib.Nat.{mul-le-mul}
+use Rattle.std.specs.Prelude.{Option, None, Some}
+use Prim.Native.Nat.{ℕ, zero, suc, ◌+◌, ◌*◌, ◌≤◌, ◌<◌}
 use native.Mathlib.Numerals.{add-one}
 use native.Mathlib.Omega.{arith}
 use mathlib.Core.Path.{◌≡◌, refl, sym, ap, ap₂, ◌∙◌}
@@ -20,8 +20,6 @@ use Rattle.tables.specs.Read.{cell, wide_at, targets_at, values_at}
 use Rattle.world.specs.World.{world_at, asks_at, asked_at, entry_in, edge_from, targets_from, lookup_at, found_by, shape_by, shape_at}
 use Rattle.sizing.specs.Measure.{add_to, tallied, row_in}
 use Rattle.sizing.specs.declared.Tally.{Tally}
-use Rattle.world.specs.declared.Property.{Property}
-use Rattle.world.specs.declared.Property.TheVariants.{Row, Nothing}
 use Rattle.world.specs.declared.FieldKind.{FieldKind}
 use Rattle.world.specs.declared.FieldKind.TheVariants.{Scalar, Objects, Object}
 use Rattle.world.proofs.Asked.{asks-field, asks-on, asked-field}
@@ -29,12 +27,6 @@ use Rattle.world.proofs.Targets.{targets_all, targets_done, targets_more, target
 use Rattle.sizing.proofs.Rows.{row_get, row-length}
 
 -- ---- one visit more
-
--- the capped multiplicity times a number of 32 bits, with another added, fits 64
-pub product_fits : (x y : ℕ) → x ≤ 1000001 → y < 2 ^ 32 → x * y ≤ 4294971589967295
-product_fits x y hx hy =
-    let hy' : y ≤ 4294967295 = omega arith in
-    mul-le-mul hx hy'
 
 -- the sum with the capped multiplicity, capped, is the capped sum
 pub added : (t : Tally) (x y m s : ℕ) → m ≡ cap x → s ≡ cap (t.size + m * y)
@@ -81,22 +73,22 @@ module _ (p v : List ℕ) (j : ℕ) where
   unfolding values_at
   values-few = simp (length-take, length-drop) (omega arith)
 
-module _ (p v : List ℕ) (r : Property) (u : ℕ) (l : Label) (is : r ≡ lookup_at p u l) where
-  pub value_none : r ≡ Nothing → ◌≡◌ {A = ℕ} 2 (of_value (found_by p v (lookup_at p u l)))
+module _ (p v : List ℕ) (r : Option ℕ) (u : ℕ) (l : Label) (is : r ≡ lookup_at p u l) where
+  pub value_none : r ≡ None → ◌≡◌ {A = ℕ} 2 (of_value (found_by p v (lookup_at p u l)))
   unfolding found_by
-  value_none e = sym (ap (λ (x : Property). of_value (found_by p v x)) (sym is ∙ e))
+  value_none e = sym (ap (λ (x : Option ℕ). of_value (found_by p v x)) (sym is ∙ e))
 
-  module _ (j : ℕ) (e : r ≡ Row j) where
+  module _ (j : ℕ) (e : r ≡ Some j) where
     pub value-many : eqb (wide_at p 8 j 4) 1 ≡ true → 3 + length (values_at p v j) ≡ of_value (found_by p v (lookup_at p u l))
     unfolding found_by
     value-many t =
-        sym (ap (λ (x : Property). of_value (found_by p v x)) (sym is ∙ e)
+        sym (ap (λ (x : Option ℕ). of_value (found_by p v x)) (sym is ∙ e)
         ∙ ap (λ (b : Bool). of_value (cond b (many (values_at p v j)) (one (get_or (values_at p v j) 0 0)))) t)
 
     pub value-one : eqb (wide_at p 8 j 4) 1 ≡ false → ◌≡◌ {A = ℕ} 2 (of_value (found_by p v (lookup_at p u l)))
     unfolding found_by
     value-one t =
-        sym (ap (λ (x : Property). of_value (found_by p v x)) (sym is ∙ e)
+        sym (ap (λ (x : Option ℕ). of_value (found_by p v x)) (sym is ∙ e)
         ∙ ap (λ (b : Bool). of_value (cond b (many (values_at p v j)) (one (get_or (values_at p v j) 0 0)))) t)
 
 -- ---- own tokens

@@ -9,10 +9,13 @@ ghost use Rattle.index.specs.Index.{Linked};
 ghost use Rattle.schema.specs.Held.{SchemaHeld};
 ghost use Rattle.graph.specs.Held.{NodesHeld, PropertiesHeld};
 ghost use Rattle.query.specs.Entries.{QueryHeld, entries_at};
+ghost use Rattle.world.specs.Told.{world_in};
 ghost use Rattle.world.specs.World.{world_at, root_at, EdgesHeld, GraphHeld, WorldHeld, asks_at, asked_at, entry_in, next_at, lookup_at, found_by};
 ghost use Rattle.sizing.specs.Measure.{add_to, tallied, measured, row_in, pushed, passed_on, QuerySteps};
 
+use query::{QueryEntry, QueryTable};
 use rules::{FieldNo, TypeNo};
+use world::{FieldKind, WorldTables};
 
 // ---- the tally
 
@@ -27,10 +30,7 @@ pub struct Tally {
 fn cap(n: u64) -> u32
     ensures { result ≡ capped n }
 {
-    if n <= 1_000_000 {
-        return n as u32;
-    }
-    1_000_001
+    n.min(1_000_001) as u32
 }
 
 // The sum of two numbers as it is shown.
@@ -55,74 +55,51 @@ impl Tally {
 
 // ---- own tokens
 
-// How many targets entry k has at node u.
-fn count_targets(g: &[u32], ix: &[u32], q: &[u32], k: usize, u: u32) -> u32
-    requires edges_held { EdgesHeld g.now ix.now }
-    requires query_held { QueryHeld q.now }
-    requires k_bound { k < cell q.now 0 }
-    ensures value { result ≡ length (targets_at g.now u (asked_at q.now k)) }
+// How many targets an entry has at node u.
+fn count_targets(w: &WorldTables, q: &QueryEntry, u: u32) -> u32
+    ensures value { result ≡ length (targets_at w.now.nodes.now u (asked_at q.now.area.now q.now.place)) }
     ensures upper_bound { result ≤ 1024 }
 {
-    let m = g[1] as usize;
+    let m = w.nodes[1] as usize;
     let mut n: u32 = 0;
-    let mut e = world::first_edge(g, ix, q, k, u);
+    let mut e = world::first_edge(w.nodes, w.index, q, u);
+    // a link leads to the next edge: nothing is counted
     while e < m {
         n += 1;
-        e = world::edge_after(g, ix, q, k, u, e);
+        e = world::edge_after(w.nodes, w.index, q, u, e);
     }
     n
 }
 
-// The own tokens of entry k, a scalar field, at node u.
-fn value_tokens(p: &[u32], v: &[u32], ix: &[u32], q: &[u32], k: usize, u: u32) -> u32
-    requires properties_held { PropertiesHeld p.now v.now }
-    requires v_len_bound { length v.now ≤ 8200 }
-    requires linked { Linked p.now 8 (cell p.now 0) ix.now 1536 }
-    requires query_held { QueryHeld q.now }
-    requires k_bound { k < cell q.now 0 }
-    ensures { result ≡ of_value (found_by p.now v.now (lookup_at p.now u (asked_at q.now k))) }
+// The own tokens of an entry, a scalar field, at node u.
+fn value_tokens(w: &WorldTables, q: &QueryEntry, u: u32) -> u32
+    ensures { result ≡ of_value (found_by w.now.properties.now w.now.values.now (lookup_at w.now.properties.now u (asked_at q.now.area.now q.now.place))) }
 {
-    let world::Property::Row(j) = world::lookup(p, ix, q, k, u) else {
+    let Some(j) = world::lookup(w.properties, w.index, q, u) else {
         return 2;
     };
-    if world::is_sequence(p, j) {
-        return 3 + world::value_count(p, v, j) as u32;
+    if world::is_sequence(w.properties, j) {
+        return 3 + w.value_count(j) as u32;
     }
     2
 }
 
-// The own tokens of entry k at node u.
-pub fn own_tokens(
-    a: &[u32],
-    g: &[u32],
-    p: &[u32],
-    v: &[u32],
-    ix: &[u32],
-    q: &[u32],
-    k: usize,
-    u: u32,
-) -> u32
-    requires world_held { WorldHeld a.now g.now p.now v.now ix.now }
-    requires query_held { QueryHeld q.now }
-    requires k_bound { k < cell q.now 0 }
-    ensures { result ≡ own (world_at a.now g.now p.now v.now) (asks_at q.now k) u }
+// The own tokens of an entry at node u.
+pub fn own_tokens(w: &WorldTables, q: &QueryEntry, u: u32) -> u32
+    ensures { result ≡ own (world_in w.now) (asks_at q.now.area.now q.now.place) u }
 {
-    if query::entry_cell(q, k, 0) != 70 {
+    if q.cell(0) != query::FIELD {
         return 0;
     }
-    let kind = world::shape(a, g, u, FieldNo(query::entry_cell(q, k, 4)));
-    match kind {
-        world::FieldKind::Scalar => {
-            return value_tokens(p, v, ix, q, k, u);
-        }
-        world::FieldKind::Objects => {
-            return 3 + 2 * count_targets(g, ix, q, k, u);
-        }
-        world::FieldKind::Object => {
-            if world::first_edge(g, ix, q, k, u) < g[1] as usize {
-                return 3;
+    match w.shape(u, FieldNo(q.cell(4))) {
+        FieldKind::Scalar => value_tokens(w, q, u),
+        FieldKind::Objects => 3 + 2 * count_targets(w, q, u),
+        FieldKind::Object => {
+            if world::first_edge(w.nodes, w.index, q, u) < w.nodes[1] as usize {
+                3
+            } else {
+                2
             }
-            return 2;
         }
     }
 }
@@ -134,11 +111,7 @@ fn zero_row(m: &mut [u64], b: usize, n: usize)
     requires { b + n ≤ length m.old }
     ensures { m.new ≡ laid b (replicate n 0) m.old }
 {
-    let mut i: usize = 0;
-    while i < n {
-        m[b + i] = 0;
-        i += 1;
-    }
+    m[b..b + n].fill(0);
 }
 
 // The number at a place.
@@ -157,177 +130,114 @@ fn add_at(m: &mut [u64], i: usize, x: u64)
     m[i] = plus(number_at(m, i), x);
 }
 
-// Adds x at the targets of entry k at node u, in the row from place b on.
-fn push_targets(g: &[u32], ix: &[u32], q: &[u32], k: usize, u: u32, x: u64, m: &mut [u64], b: usize)
-    requires edges_held { EdgesHeld g.now ix.now }
-    requires query_held { QueryHeld q.now }
-    requires k_bound { k < cell q.now 0 }
-    requires g_in_bounds { b + cell g.now 0 ≤ length m.old }
-    ensures { m.new ≡ pushed b x (targets_at g.now u (asked_at q.now k)) m.old }
+// Adds x at the targets of an entry at node u, in the row from place b on.
+fn push_targets(w: &WorldTables, q: &QueryEntry, u: u32, x: u64, m: &mut [u64], b: usize)
+    requires g_in_bounds { b + cell w.now.nodes.now 0 ≤ length m.old }
+    ensures { m.new ≡ pushed b x (targets_at w.now.nodes.now u (asked_at q.now.area.now q.now.place)) m.old }
 {
-    let n = g[1] as usize;
-    let mut e = world::first_edge(g, ix, q, k, u);
+    let n = w.nodes[1] as usize;
+    let mut e = world::first_edge(w.nodes, w.index, q, u);
+    // a link leads to the next edge: nothing is counted
     while e < n {
-        add_at(m, b + world::target(g, e) as usize, x);
-        e = world::edge_after(g, ix, q, k, u, e);
+        add_at(m, b + w.target(e) as usize, x);
+        e = world::edge_after(w.nodes, w.index, q, u, e);
     }
 }
 
-// Adds x at the nodes at which the evaluation of entry k at node u goes on, in the row from place b on.
-fn pass_on(
-    a: &[u32],
-    g: &[u32],
-    ix: &[u32],
-    q: &[u32],
-    k: usize,
-    u: u32,
-    x: u64,
-    m: &mut [u64],
-    b: usize,
-)
-    requires graph_held { GraphHeld a.now g.now ix.now }
-    requires query_held { QueryHeld q.now }
-    requires k_bound { k < cell q.now 0 }
-    requires u_bound { u < cell g.now 0 }
-    requires g_in_bounds { b + cell g.now 0 ≤ length m.old }
-    ensures { m.new ≡ pushed b x (next_at a.now g.now q.now k u) m.old }
+// Adds x at the nodes at which the evaluation of an entry at node u goes on, in the row from place b on.
+fn pass_on(w: &WorldTables, q: &QueryEntry, u: u32, x: u64, m: &mut [u64], b: usize)
+    requires u_bound { u < cell w.now.nodes.now 0 }
+    requires g_in_bounds { b + cell w.now.nodes.now 0 ≤ length m.old }
+    ensures { m.new ≡ pushed b x (next_at w.now.schema.now w.now.nodes.now q.now.area.now q.now.place u) m.old }
 {
-    if query::entry_cell(q, k, 0) != 70 {
-        if world::holds(a, g, u, TypeNo(query::entry_cell(q, k, 3))) {
+    if q.cell(0) != query::FIELD {
+        if w.holds(u, TypeNo(q.cell(3))) {
             add_at(m, b + u as usize, x);
         }
         return;
     }
-    let kind = world::shape(a, g, u, FieldNo(query::entry_cell(q, k, 4)));
-    match kind {
-        world::FieldKind::Scalar => {
-            return;
-        }
-        world::FieldKind::Objects => {
-            push_targets(g, ix, q, k, u, x, m, b);
-            return;
-        }
-        world::FieldKind::Object => {
-            let e = world::first_edge(g, ix, q, k, u);
-            if e < g[1] as usize {
-                add_at(m, b + world::target(g, e) as usize, x);
+    match w.shape(u, FieldNo(q.cell(4))) {
+        FieldKind::Scalar => {}
+        FieldKind::Objects => push_targets(w, q, u, x, m, b),
+        FieldKind::Object => {
+            let e = world::first_edge(w.nodes, w.index, q, u);
+            if e < w.nodes[1] as usize {
+                add_at(m, b + w.target(e) as usize, x);
             }
-            return;
         }
     }
 }
 
-// Makes the row of entry k's children from place b on, of the entry's own row from place c on.
-fn pass_row(
-    a: &[u32],
-    g: &[u32],
-    ix: &[u32],
-    q: &[u32],
-    k: usize,
-    m: &mut [u64],
-    c: usize,
-    b: usize,
-)
-    requires graph_held { GraphHeld a.now g.now ix.now }
-    requires query_held { QueryHeld q.now }
-    requires k_bound { k < cell q.now 0 }
-    requires g_bound { c + cell g.now 0 ≤ b }
-    requires g_in_bounds { b + cell g.now 0 ≤ length m.old }
-    ensures { m.new ≡ laid b (passed_on (world_at a.now g.now [] []) (asks_at q.now k) (row_in m.old c (cell g.now 0))) m.old }
+// Makes the row of an entry's children from place b on, of the entry's own row from place c on.
+fn pass_row(w: &WorldTables, q: &QueryEntry, m: &mut [u64], c: usize, b: usize)
+    requires g_bound { c + cell w.now.nodes.now 0 ≤ b }
+    requires g_in_bounds { b + cell w.now.nodes.now 0 ≤ length m.old }
+    ensures { m.new ≡ laid b (passed_on (world_at w.now.schema.now w.now.nodes.now [] []) (asks_at q.now.area.now q.now.place) (row_in m.old c (cell w.now.nodes.now 0))) m.old }
 {
-    let n = g[0];
+    let n = w.nodes[0];
     zero_row(m, b, n as usize);
-    let mut u: u32 = 0;
-    while u < n {
+    for u in 0..n {
         let x = number_at(m, c + u as usize);
         if 0 < x {
-            pass_on(a, g, ix, q, k, u, x, m, b);
+            pass_on(w, q, u, x, m, b);
         }
-        u += 1;
     }
 }
 
-// Adds the visits of entry k, whose row stands from place c on, to a tally.
-fn tally_row(
-    a: &[u32],
-    g: &[u32],
-    p: &[u32],
-    v: &[u32],
-    ix: &[u32],
-    q: &[u32],
-    k: usize,
-    m: &[u64],
-    c: usize,
-    t: Tally,
-) -> Tally
-    requires world_held { WorldHeld a.now g.now p.now v.now ix.now }
-    requires query_held { QueryHeld q.now }
-    requires k_bound { k < cell q.now 0 }
-    requires g_in_bounds { c + cell g.now 0 ≤ length m.now }
+// Adds the visits of an entry, whose row stands from place c on, to a tally.
+fn tally_row(w: &WorldTables, q: &QueryEntry, m: &[u64], c: usize, t: Tally) -> Tally
+    requires g_in_bounds { c + cell w.now.nodes.now 0 ≤ length m.now }
     requires visits_bound { t.visits ≤ 1000000 }
-    ensures value { result ≡ tallied (world_at a.now g.now p.now v.now) t (visits_of (entry_in q.now k) 0 (row_in m.now c (cell g.now 0))) }
-    ensures visits_bound_2 { result.visits ≤ t.visits + cell g.now 0 }
+    ensures value { result ≡ tallied (world_in w.now) t (visits_of (entry_in q.now.area.now q.now.place) 0 (row_in m.now c (cell w.now.nodes.now 0))) }
+    ensures visits_bound_2 { result.visits ≤ t.visits + cell w.now.nodes.now 0 }
 {
-    let n = g[0];
     let mut r = t;
-    let mut u: u32 = 0;
-    while u < n {
+    for u in 0..w.nodes[0] {
         let x = number_at(m, c + u as usize);
         if 0 < x {
-            r = r.add(x, own_tokens(a, g, p, v, ix, q, k, u));
+            r = r.add(x, own_tokens(w, q, u));
         }
-        u += 1;
     }
     r
 }
 
 // The first row: 1 at the query node.
-fn first_row(a: &[u32], g: &[u32], m: &mut [u64])
-    requires schema_held { SchemaHeld a.now }
-    requires nodes_held { NodesHeld g.now }
-    requires g_bound { root_at a.now g.now < cell g.now 0 }
-    requires g_in_bounds { cell g.now 0 ≤ length m.old }
-    ensures { m.new ≡ laid 0 (start (world_at a.now g.now [] []) (root_at a.now g.now)) m.old }
+fn first_row(w: &WorldTables, m: &mut [u64])
+    requires g_bound { root_at w.now.schema.now w.now.nodes.now < cell w.now.nodes.now 0 }
+    requires g_in_bounds { cell w.now.nodes.now 0 ≤ length m.old }
+    ensures { m.new ≡ laid 0 (start (world_at w.now.schema.now w.now.nodes.now [] []) (root_at w.now.schema.now w.now.nodes.now)) m.old }
 {
-    zero_row(m, 0, g[0] as usize);
-    m[world::query_node(a, g) as usize] = 1;
+    zero_row(m, 0, w.nodes[0] as usize);
+    m[w.query_node() as usize] = 1;
 }
 
 // The size and the visits of the query that the areas hold. The row of each depth stands at 512 times the depth.
-pub fn size_query(
-    a: &[u32],
-    g: &[u32],
-    p: &[u32],
-    v: &[u32],
-    ix: &[u32],
-    q: &[u32],
-    m: &mut [u64],
-) -> Tally
-    requires world_held { WorldHeld a.now g.now p.now v.now ix.now }
-    requires query_steps { QuerySteps q.now }
-    requires g_bound { root_at a.now g.now < cell g.now 0 }
+pub fn size_query(w: &WorldTables, q: &QueryTable, m: &mut [u64]) -> Tally
+    requires query_steps { QuerySteps q.now.area.now }
+    requires g_bound { root_at w.now.schema.now w.now.nodes.now < cell w.now.nodes.now 0 }
     requires in_bounds { 8192 ≤ length m.old }
-    ensures { result ≡ measured (world_at a.now g.now p.now v.now) (entries_at q.now) (root_at a.now g.now) }
+    ensures { result ≡ measured (world_in w.now) (entries_at q.now.area.now) (root_at w.now.schema.now w.now.nodes.now) }
 {
-    first_row(a, g, m);
-    let n = q[0] as usize;
+    first_row(w, m);
     let mut t = Tally { size: 0, visits: 0 };
-    let mut k: usize = 0;
-    while k < n {
-        let d = query::entry_cell(q, k, 2) as usize;
-        t = tally_row(a, g, p, v, ix, q, k, m, 512 * d, t);
+    for k in 0..q.len() {
+        let entry = QueryEntry {
+            area: q.area,
+            place: k,
+        };
+        let d = entry.cell(2) as usize;
+        t = tally_row(w, &entry, m, 512 * d, t);
         if d < 15 {
-            pass_row(a, g, ix, q, k, m, 512 * d, 512 * d + 512);
+            pass_row(w, &entry, m, 512 * d, 512 * d + 512);
         }
-        k += 1;
     }
     t
 }
 
-// Zeroes the whole area of the rows.
+// Zeroes the whole area of the rows, as `tables::clear` does the other areas. A function of its own beside that one: docs/CERTIFY.md names
+// both, each with a must-fail edit of its own, and one over any numbers would be given the zero, as std's `fill` is.
 pub fn clear_rows(m: &mut [u64])
     ensures { m.new ≡ replicate (length m.old) 0 }
 {
-    let n = m.len();
-    zero_row(m, 0, n);
+    m.fill(0);
 }

@@ -4,7 +4,7 @@ use mathlib.Core.Path.{◌≡◌, refl, sym, ap, subst}
 use mathlib.Core.Logic.{inl, inr, ◌↔◌}
 use mathlib.Core.Bool.{Bool, true, false, not}
 use mathlib.Core.List.{List, [], ◌∷◌}
-use mathlib.Core.Option.{some, some-injective}
+use Rattle.std.specs.Prelude.{Some}
 use lib.Dec.{eqb, ltb}
 use lib.ListN.{length}
 use borrow.Author.Tests.{eqb-true, ltb-true, ltb-false, le-ltb}
@@ -20,7 +20,7 @@ use Rattle.rules.specs.Answer.{Texts, world_of, schema_rows, graph_rows, query_r
 use Rattle.rules.specs.Answer.{Numbered, schema_checks, graph_checks, query_checks, checks, answer_checks, largest_room}
 use Rattle.rules.specs.Contract.{place_of, Passed}
 use Rattle.rules.specs.declared.Spot.{Spot}
-use Rattle.rules.proofs.Bools.{some-none}
+use Rattle.rules.proofs.Bools.{some-same, some-none}
 use Rattle.rules.proofs.Clean.{Each, whole-none}
 use Rattle.rules.proofs.Places.{Passes, passes_at, passed-tail, place_is_first}
 use Rattle.rules.proofs.Outcomes.{answer-checks_rise}
@@ -75,30 +75,30 @@ module _ (short : Bool) (x : Texts) where
 
 -- ---- the place fixed
 
-whole_place : (b : Bool) (p : Spot) → whole b ≡ some p → p ≡ spot 0 0
-whole_place true p h = sym (some-injective (spot 0 0) p h)
+whole_place : (b : Bool) (p : Spot) → whole b ≡ Some p → p ≡ spot 0 0
+whole_place true p h = sym (some-same (spot 0 0) p h)
 whole_place false p h = absurd (some-none (sym h))
 
-form_place : (fs : List Form) (text : List ℕ) (p : Spot) → text_form fs text ≡ some p → FormPlace fs text p
+form_place : (fs : List Form) (text : List ℕ) (p : Spot) → text_form fs text ≡ Some p → FormPlace fs text p
 form_place fs text p h = go (ltb longest (length text)) refl
   where
     go : (b : Bool) → ltb longest (length text) ≡ b → FormPlace fs text p
-    go true e = inl (ltb-true longest (length text) e, sym (some-injective (spot 0 0) p (rw e at h)))
+    go true e = inl (ltb-true longest (length text) e, sym (some-same (spot 0 0) p (rw e at h)))
     go false e = inr (ltb-false longest (length text) e, (place_is_first (breaks fs) (lines text) p).0 (rw e at h))
 
-step_place : (rs : List Row) (p : Spot) → check32 rs ≡ some p → StepPlace rs p
-step_place [] p h = inl (refl, sym (some-injective (spot 0 0) p h))
+step_place : (rs : List Row) (p : Spot) → check32 rs ≡ Some p → StepPlace rs p
+step_place [] p h = inl (refl, sym (some-same (spot 0 0) p h))
 step_place (r ∷ rs) p h = inr ((place_is_first steps (r ∷ rs) p).0 h)
 
 -- the checks of a list, each with its place fixed
 abbrev pub Fixes : Texts → Numbered → Type 0
-Fixes x c = (p : Spot) → c.place ≡ some p → PlaceFixed x c.number p
+Fixes x c = (p : Spot) → c.place ≡ Some p → PlaceFixed x c.number p
 
-pub place_fixed : (x : Texts) (cs : List Numbered) → Each (Fixes x) cs → (n : ℕ) (p : Spot) → place_of n cs ≡ some p → PlaceFixed x n p
+pub place_fixed : (x : Texts) (cs : List Numbered) → Each (Fixes x) cs → (n : ℕ) (p : Spot) → place_of n cs ≡ Some p → PlaceFixed x n p
 place_fixed x [] f n p h = absurd (some-none (sym h))
 place_fixed x (c ∷ cs) f n p h = go (λ k. place_fixed x cs f.1 n p k) (eqb c.number n) refl
   where
-    go : (place_of n cs ≡ some p → PlaceFixed x n p) → (b : Bool) → eqb c.number n ≡ b → PlaceFixed x n p
+    go : (place_of n cs ≡ Some p → PlaceFixed x n p) → (b : Bool) → eqb c.number n ≡ b → PlaceFixed x n p
     go ih true e = subst (λ (k : ℕ). PlaceFixed x k p) (eqb-true c.number n e) (f.0 p (rw (e, place_of) at h))
     go ih false e = ih (rw (e, place_of) at h)
 

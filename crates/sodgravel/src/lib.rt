@@ -6,6 +6,7 @@ ghost use Rattle.judge.specs.Texts.{texts, lent};
 ghost use Rattle.response.specs.Calls.{sized_in, answered_in, buffer_in};
 ghost use Rattle.sodgravel.specs.Cleared.{cleared};
 
+// C lends each area by itself, with its length, and the promise of each stands by itself in the contract.
 use rules::Outcome;
 
 // Zeroes every work area.

@@ -8,7 +8,7 @@ use lib.Dec.{eqb}
 use lib.ListN.{length, get_or, drop}
 use borrow.Author.Tests.{eq-eqb, ne_eqb, eqb-true, eqb-false}
 use Rattle.rules.specs.Lists.{those}
-use Rattle.rules.specs.Text.{lines, Row, row, rows, at, Q}
+use Rattle.rules.specs.Text.{lines, Row, row, rows, at, type_no, Q}
 use Rattle.rules.specs.Schema.{is, nth}
 use Rattle.rules.proofs.Clean.{Each}
 use Rattle.text.specs.declared.Row.{Row as Read}
@@ -19,21 +19,7 @@ use Rattle.tables.specs.declared.Queries.{Queries}
 use Rattle.tables.proofs.Turns.{Turn, rows_end, letter_read, number_read}
 
 abbrev queries : ℕ → ℕ → Queries
-queries n f = record { count = n; first = f }
-
--- a row more
-module _ (q : Queries) (l n : ℕ) where
-  pub ask_none : (l ≡ 81 → ⊥) → q ≡ asked_with q l n
-  unfolding asked_with
-  ask_none h = simp (ne_eqb l 81 h)
-
-  pub ask_first : l ≡ 81 → q.count ≡ 0 → queries 1 n ≡ asked_with q l n
-  unfolding asked_with
-  ask_first h z = simp (eq-eqb l 81 h, eq-eqb q.count 0 z)
-
-  pub ask_more : l ≡ 81 → (q.count ≡ 0 → ⊥) → queries (q.count + 1) q.first ≡ asked_with q l n
-  unfolding asked_with
-  ask_more h z = simp (eq-eqb l 81 h, ne_eqb q.count 0 z)
+queries n f = record { count = n; first = type_no f }
 
 -- where `count` were found and the first names `first`, with those of some further rows
 pub asked : ℕ → ℕ → List Row → Queries
@@ -121,7 +107,7 @@ module _ {s : List ℕ} {count first here : ℕ} (f : Asked s count first here) 
       }
 
   -- with the row, whatever its letter
-  pub asked-on : {q : Queries} → q ≡ asked_with (queries count first) r.letter (get_or r.nums 0 0) → Asked s q.count q.first r.next
+  pub asked-on : {q : Queries} → q ≡ asked_with (queries count first) r.letter (type_no (get_or r.nums 0 0)) → Asked s q.count q.first.0 r.next
   unfolding asked_with
   asked-on {q} e =
       by_test (eqb r.letter Q)
@@ -134,7 +120,7 @@ module _ {s : List ℕ} {count first here : ℕ} (f : Asked s count first here) 
       rw same (asked_by (eqb-false r.letter Q l)))
 
 pub asked-all : {s : List ℕ} {count first here : ℕ} → Asked s count first here → length s ≤ here
-    → record { count = count; first = first } ≡ queries_in (rows s)
+    → queries count first ≡ queries_in (rows s)
 unfolding asked
 asked-all {s} {count} {first} {here} f h =
     sym (f.done ∙ ap (asked count first) (rows_end s here h) ∙ ap (λ (n : ℕ). queries n (cond (eqb count 0) 0 first)) (omega arith)

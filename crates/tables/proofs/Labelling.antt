@@ -4,7 +4,7 @@ use native.Mathlib.Omega.{arith}
 use mathlib.Core.Path.{◌≡◌, subst}
 use mathlib.Core.Bool.{true}
 use mathlib.Core.List.{List, [], ◌∷◌}
-use mathlib.Core.Option.{none}
+use Rattle.std.specs.Prelude.{None}
 use lib.Dec.{eqb}
 use lib.ListN.{length, get_or}
 use borrow.Author.Tests.{ltb-false, eqb-true, not-false}
@@ -49,7 +49,7 @@ graph_line l s = (edge, property)
           long = ltb-false (length (row l).numbers) (4 + 2 * at (row l) 3) t.1.1.0;
         }
 
-pub graph-formed : (s : List ℕ) → text_form graph_forms s ≡ none → Each Formed (rows s)
+pub graph-formed : (s : List ℕ) → text_form graph_forms s ≡ None → Each Formed (rows s)
 graph-formed s h = rows-each graph_forms Formed graph_line s h
 
 -- of the rows of a kind, by number

@@ -13,7 +13,7 @@ use Rattle.tables.specs.Fill.{queries_in, schema_counts_of, head_of, SchemaFits,
 use Rattle.tables.specs.declared.SchemaCounts.{SchemaCounts}
 use Rattle.tables.proofs.Narrow.{narrow-length}
 use Rattle.tables.proofs.Wide.{wide-table_length}
-use Rattle.tables.proofs.Stores.{head-stored}
+use Rattle.tables.proofs.Stores.{head_stored}
 
 -- ---- how long a table is
 
@@ -60,20 +60,20 @@ module _ (rs : List Row) (n : ℕ) (a₀ a₁ : List ℕ) (e₀ : a₀ ≡ repli
   pub node-laid : (v w : ℕ) → 2 ≤ length a₁ → a₁ ≡ laid 1544 (table 8 0 rs) (laid 8 (table 7 0 rs) a₀) → v ≡ counted 7 rs → w ≡ counted 8 rs
       → set (set a₁ 0 v) 1 w ≡ node_area n rs
   unfolding node_area
-  node-laid v w h e₁ p q = head-stored (v ∷ w ∷ []) a₁ h ∙ cc
+  node-laid v w h e₁ p q = head_stored (v ∷ w ∷ []) a₁ h ∙ cc
 
   module _ (v : ℕ) (h : 1 ≤ length a₁) where
     pub property-laid : a₁ ≡ laid 8 (table 9 0 rs) a₀ → v ≡ counted 9 rs → set a₁ 0 v ≡ property_area n rs
     unfolding property_area
-    property-laid e₁ e = head-stored (v ∷ []) a₁ h ∙ cc
+    property-laid e₁ e = head_stored (v ∷ []) a₁ h ∙ cc
 
     pub value-laid : a₁ ≡ laid 8 (all_values rs) a₀ → v ≡ length (all_values rs) → set a₁ 0 v ≡ value_area n rs
     unfolding value_area
-    value-laid e₁ e = head-stored (v ∷ []) a₁ h ∙ cc
+    value-laid e₁ e = head_stored (v ∷ []) a₁ h ∙ cc
 
     pub query-laid : a₁ ≡ laid 8 (table 10 0 rs) a₀ → v ≡ counted 10 rs → set a₁ 0 v ≡ query_area n rs
     unfolding query_area
-    query-laid e₁ e = head-stored (v ∷ []) a₁ h ∙ cc
+    query-laid e₁ e = head_stored (v ∷ []) a₁ h ∙ cc
 
 -- ---- the schema
 

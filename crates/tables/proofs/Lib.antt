@@ -2,7 +2,6 @@ pub mod Laid
 pub mod Those
 pub mod Cells
 pub mod Stores
-pub mod Belonging
 pub mod Turns
 pub mod Asking
 pub mod Putting

@@ -9,13 +9,12 @@ use lib.Seq.{drop-drop, drop-nil}
 use borrow.Author.Tests.{eq-eqb, ne_eqb}
 use Rattle.rules.specs.Text.{Line, fields, leading, row_of, row}
 use Rattle.text.specs.declared.Row.{Row as Read}
-use Rattle.text.specs.declared.Num.{Num}
-use Rattle.text.specs.declared.Num.TheVariants.{Value, Fault}
-use Rattle.text.specs.Number.{field_of, number_at, ByteAt}
+use Rattle.text.specs.Number.{field_of, number_to, stopped_at, number_at, ByteAt}
 use Rattle.text.specs.Line.{line_at, row_from, unread_row}
 use Rattle.text.proofs.Tools.{by_order}
 use Rattle.text.proofs.Lines.{line-is}
-use Rattle.text.proofs.Fields.{left_of, left_drop, fields_left, leading-more, leading-stop, fields_split, value-here, fault-here, left_at, ends, first-is}
+use Rattle.text.proofs.Bytes.{first-is}
+use Rattle.text.proofs.Fields.{left_of, left_drop, fields_left, leading-more, leading-stop, fields_split, value-here, fault-here, left_at, ends}
 use Rattle.tables.specs.Layout.{laid}
 use Rattle.tables.specs.Fill.{whole, Plain}
 use Rattle.tables.proofs.Laid.{laid_nil, laid-append}
@@ -66,28 +65,29 @@ module _ {s : List ℕ} {i b : ℕ} (h : ByteAt s i b) where
       (λ q. ap (λ (bs : List ℕ). leading (fields_left bs)) (first-is s i b h q) ∙ simp (ne_eqb b 9 t))
       (λ q. ap (λ (bs : List ℕ). leading (fields_left bs)) (drop_of_length-le s q))
 
-  module _ {num : Num} (t : b ≡ 9) (p : num ≡ number_at s (i + 1)) where
-    number_left : (v n : ℕ) → num ≡ Value v n → numbers_left s i ≡ v ∷ numbers_left s n
-    unfolding numbers_left
-    number_left v n q =
-        let w = value-here s (i + 1) v n (sym p ∙ q) in
-        ap leading (fields-here t)
-        ∙ leading-more (field_of (drop (i + 1) s)) (fields_left (left_of (drop (i + 1) s))) w.good
-        ∙ ap (λ (m : ℕ). m ∷ leading (fields_left (left_of (drop (i + 1) s)))) (sym w.value)
-        ∙ ap (λ (bs : List ℕ). v ∷ leading (fields_left bs)) (left_at s (i + 1) v n w)
-
-    pub fault_left : {k : ℕ} → num ≡ Fault k → numbers_left s i ≡ []
+  module _ (t : b ≡ 9) where
+    pub fault_left : {k : ℕ} → stopped_at k ≡ number_at s (i + 1) → numbers_left s i ≡ []
     unfolding numbers_left
     fault_left {k} q =
         ap leading (fields-here t)
-        ∙ leading-stop (field_of (drop (i + 1) s)) (fields_left (left_of (drop (i + 1) s))) (fault-here s (i + 1) k (sym p ∙ q))
+        ∙ leading-stop (field_of (drop (i + 1) s)) (fields_left (left_of (drop (i + 1) s))) (fault-here s (i + 1) k q)
 
-    pub next-number : {v n : ℕ} → num ≡ Value v n → Next s i v n
-    next-number {v} {n} q =
-        let y = h.inside (omega arith) in
-        let z = ends s (i + 1) v n num p q (omega arith) in
-        let a = z.after in
-        record { left = number_left v n q; after = omega arith; inside = z.inside }
+    module _ {v n : ℕ} (q : number_to v n ≡ number_at s (i + 1)) where
+      number_left : numbers_left s i ≡ v ∷ numbers_left s n
+      unfolding numbers_left
+      number_left =
+          let w = value-here s (i + 1) v n q in
+          ap leading (fields-here t)
+          ∙ leading-more (field_of (drop (i + 1) s)) (fields_left (left_of (drop (i + 1) s))) w.good
+          ∙ ap (λ (m : ℕ). m ∷ leading (fields_left (left_of (drop (i + 1) s)))) (sym w.value)
+          ∙ ap (λ (bs : List ℕ). v ∷ leading (fields_left bs)) (left_at s (i + 1) v n w)
+
+      pub next-number : Next s i v n
+      next-number =
+          let y = h.inside (omega arith) in
+          let z = ends s (i + 1) v n q (omega arith) in
+          let a = z.after in
+          record { left = number_left; after = omega arith; inside = z.inside }
 
 -- ---- laying them
 

@@ -4,12 +4,12 @@ use native.Mathlib.Omega.{arith}
 use mathlib.Core.Path.{◌≡◌, refl, ap, ◌∙◌}
 use mathlib.Core.List.{List, [], ◌∷◌}
 use lib.ListN.{length, get_or}
-use Rattle.rules.specs.Text.{lines, Row, row, rows}
+use Rattle.rules.specs.Text.{lines, Row, row, rows, type_no}
 use Rattle.rules.proofs.Clean.{Each}
 use Rattle.text.specs.declared.Row.{Row as Read}
 use Rattle.text.specs.Line.{line_at}
 use Rattle.tables.specs.Layout.{laid, valued, table, counted, schema_laid}
-use Rattle.tables.specs.Fill.{Plain, row_in, space, asked_with, schema_counts_of, SchemaFits}
+use Rattle.tables.specs.Fill.{Plain, row_in, space, asked_with, queries_in, schema_counts_of, SchemaFits}
 use Rattle.tables.specs.declared.Queries.{Queries}
 use Rattle.tables.proofs.Turns.{Turn}
 use Rattle.tables.proofs.Asking.{Asked, asked-start, asked-on, asked-all}
@@ -25,10 +25,10 @@ schema_places types fields args has takes members = (6, members) ∷ (5, takes) 
 pub record SchemaLeft (s area₀ area : List ℕ) (types fields args has takes members : ℕ) (q : Queries) (here : ℕ) : Type 0 where
   pub before : ℕ
   pub left : Left s (schema_places 8 200 584 776 3848 6920) area₀ (schema_places types fields args has takes members) area before here
-  pub asked : Asked s q.count q.first here
+  pub asked : Asked s q.count q.first.0 here
 
 pub schema-start : {s area : List ℕ} → Each Plain (lines s) → SchemaFits (rows s) → 9992 ≤ length area
-    → SchemaLeft s area area 8 200 584 776 3848 6920 (record { count = 0; first = 0 }) 0
+    → SchemaLeft s area area 8 200 584 776 3848 6920 (record { count = 0; first = type_no 0 }) 0
 schema-start {s} plain f h =
     let rs = rows s in
     record {
@@ -60,7 +60,7 @@ module _ {s area₀ area : List ℕ} {types fields args has takes members : ℕ}
 
   pub schema-on : {a₁ a₂ a₃ a₄ a₅ a₆ : List ℕ} {types' fields' args' has' takes' members' : ℕ} {q' : Queries}
       → Put 1 types types' area a₁ → Put 2 fields fields' a₁ a₂ → Put 3 args args' a₂ a₃ → Put 4 has has' a₃ a₄
-      → Put 5 takes takes' a₄ a₅ → Put 6 members members' a₅ a₆ → q' ≡ asked_with q r.letter (get_or r.nums 0 0)
+      → Put 5 takes takes' a₄ a₅ → Put 6 members members' a₅ a₆ → q' ≡ asked_with q r.letter (type_no (get_or r.nums 0 0))
       → SchemaLeft s area₀ a₆ types' fields' args' has' takes' members' q' r.next
   unfolding moved puts
   schema-on e₁ e₂ e₃ e₄ e₅ e₆ e =
@@ -139,5 +139,5 @@ module _ {s area₀ area : List ℕ} {types fields args has takes members : ℕ}
       let e₄ : (has - 776) / 3 ≡ counted 4 (rows s) = omega arith in
       let e₅ : (takes - 3848) / 3 ≡ counted 5 (rows s) = omega arith in
       let e₆ : (members - 6920) / 3 ≡ counted 6 (rows s) = omega arith in
-      let e₇ = asked-all f.asked h in
+      let e₇ : q ≡ queries_in (rows s) = asked-all f.asked h in
       cc

@@ -1,7 +1,8 @@
 -- What filling a table asks of a text, and what it reads of a line. Assumes nothing.
 use Rattle.std.specs.Prelude.{ℕ, ◌+◌, ◌*◌, ◌-◌, ◌≤◌, ◌≡◌, List, [], ◌∷◌, true, cond, length, get_or, eqb, leb}
 use Rattle.rules.specs.Lists.{those}
-use Rattle.rules.specs.Text.{Line, fields, Row, row, at, values_of, P, Q}
+use Rattle.rules.specs.declared.TypeNo.{TypeNo}
+use Rattle.rules.specs.Text.{Line, fields, Row, row, at, values_of, type_no, P, Q}
 use Rattle.rules.specs.Schema.{is, nth}
 use Rattle.text.specs.Line.{padded, row_from}
 use Rattle.text.specs.declared.Row.{Row as Read}
@@ -52,10 +53,10 @@ graph_counts_of rs =
 
 -- the Q records: how many there are, and the type that the first names
 unfoldable pub queries_in : List Row → Queries
-queries_in rs = record { count = length (those (is Q) rs); first = at (nth (is Q) rs 0) 0 }
+queries_in rs = record { count = length (those (is Q) rs); first = type_no (at (nth (is Q) rs 0) 0) }
 
 -- and with a row more, from its letter and its first number
-unfoldable pub asked_with : Queries → ℕ → ℕ → Queries
+unfoldable pub asked_with : Queries → ℕ → TypeNo → Queries
 asked_with q letter first =
     cond (eqb letter Q)
     (cond (eqb q.count 0) (record { count = 1; first = first }) (record { count = q.count + 1; first = q.first }))
@@ -77,7 +78,7 @@ schema_counts_of rs =
 -- the head of the schema's area
 unfoldable pub head_of : SchemaCounts → List ℕ
 head_of c =
-    c.types ∷ c.fields ∷ c.args ∷ c.has ∷ c.takes ∷ c.members ∷ c.queries.count ∷ c.queries.first ∷ []
+    c.types ∷ c.fields ∷ c.args ∷ c.has ∷ c.takes ∷ c.members ∷ c.queries.count ∷ c.queries.first.0 ∷ []
 
 -- no maximum is passed (checks 11 and 21)
 pub record SchemaFits (rs : List Row) : Type 0 where

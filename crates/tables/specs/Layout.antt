@@ -4,6 +4,8 @@ use Rattle.rules.specs.Lists.{those, each}
 use Rattle.rules.specs.Text.{Row, at, values_of, A, E, F, G, H, M, N, P, Q}
 use Rattle.rules.specs.Schema.{is, is_type, nth}
 use Rattle.text.specs.Line.{padded}
+use Rattle.tables.specs.declared.Table.{Table}
+use Rattle.tables.specs.declared.Table.TheVariants.{Types, Fields, Args, Has, Takes, Members, Nodes, Edges, Properties, Entries}
 
 -- ---- writing: some numbers laid over an area from a place on
 
@@ -19,6 +21,32 @@ narrow r = r.letter ∷ at r 0 ∷ at r 1 ∷ []
 
 unfoldable pub wide : ℕ → Row → List ℕ
 wide tag r = tag ∷ length r.numbers ∷ padded 12 r.numbers
+
+-- the number of a table
+abbrev pub table_number : Table → ℕ
+table_number Types = 1
+table_number Fields = 2
+table_number Args = 3
+table_number Has = 4
+table_number Takes = 5
+table_number Members = 6
+table_number Nodes = 7
+table_number Edges = 8
+table_number Properties = 9
+table_number Entries = 10
+
+-- the table that a number means; any other number is taken for the query's entries
+abbrev pub table_for : ℕ → Table
+table_for n =
+    cond (eqb n 1) Types
+    (cond (eqb n 2) Fields
+    (cond (eqb n 3) Args
+    (cond (eqb n 4) Has
+    (cond (eqb n 5) Takes
+    (cond (eqb n 6) Members
+    (cond (eqb n 7) Nodes
+    (cond (eqb n 8) Edges
+    (cond (eqb n 9) Properties Entries))))))))
 
 -- The tables, by number: 1 types, 2 fields, 3 arguments, 4 H, 5 G, 6 M, 7 nodes, 8 edges, 9 properties, 10 the query's entries.
 -- Which rows belong to a table:

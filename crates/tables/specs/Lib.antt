@@ -1,3 +1,4 @@
 pub mod Layout
 pub mod Fill
 pub mod Read
+pub mod Fact

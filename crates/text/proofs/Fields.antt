@@ -2,21 +2,18 @@
 use Prim.Native.Nat.{ℕ, ◌+◌, ◌≤◌, ◌<◌}
 use mathlib.Core.Path.{◌≡◌, refl, sym, ap, ◌∙◌}
 use mathlib.Core.List.{List, [], ◌∷◌}
-use mathlib.Core.Bool.{Bool, true, false, cond, false≢true, true≢false}
+use mathlib.Core.Bool.{true, false, cond, false≢true, true≢false}
 use native.Mathlib.Omega.{arith}
 use native.Mathlib.Nat.{zero-add}
-use native.Mathlib.Numerals.{add-one}
 use lib.ListN.{length, drop, length-drop}
 use lib.Seq.{drop-drop}
 use lib.Dec.{eqb}
 use borrow.Author.Tests.{ne_eqb, eqb-true}
 use Rattle.rules.specs.Lists.{is_empty}
 use Rattle.rules.specs.Text.{tab, newline, on_first_field, fields, decimal, is_number, leading}
-use Rattle.text.specs.declared.Num.{Num}
-use Rattle.text.specs.declared.Num.TheVariants.{Value, Fault}
-use Rattle.text.specs.Number.{is_stop, stop_in, field_of, number_of, number_at, good_part, ByteAt}
+use Rattle.text.specs.declared.Numeral.{Numeral}
+use Rattle.text.specs.Number.{is_stop, stop_in, field_of, number_to, stopped_at, number_of, number_at}
 use Rattle.text.proofs.Tools.{by_test}
-use Rattle.text.proofs.Bytes.{at_first}
 use Rattle.text.proofs.Lines.{body_of, is_ended, line_length}
 
 -- ---- a field, and what stands behind it
@@ -100,27 +97,22 @@ pub record NumberHere (s : List ℕ) (at v n : ℕ) : Type 0 where
   pub value : v ≡ decimal 0 (field_of (drop at s))
   pub next : n ≡ at + length (field_of (drop at s))
 
-pub value-here : (s : List ℕ) (at v n : ℕ) → number_at s at ≡ Value v n → NumberHere s at v n
+same_number : (v n w m : ℕ) → number_to v n ≡ number_to w m → (v ≡ w) × (n ≡ m)
+same_number v n w m e =
+    let r : ◌≡◌ {A = Numeral} (record { value = v; next = n }) (record { value = w; next = m }) = cc in
+    (ap (λ (x : Numeral). x.value) r, ap (λ (x : Numeral). x.next) r)
+
+pub value-here : (s : List ℕ) (at v n : ℕ) → number_to v n ≡ number_at s at → NumberHere s at v n
 unfolding number_at number_of
 value-here s at v n e =
-    let f = field_of (drop at s) in
-    by_test (is_number f)
-    (λ g. let h : Value (decimal 0 f) (at + length f) ≡ Value v n =
-    sym (ap (λ (t : Bool). cond t (Value (decimal 0 f) (at + length f)) (Fault (at + good_part f))) g) ∙ e in
-    record { good = g; value = cc; next = cc })
-    (λ g. let h : Fault (at + good_part f) ≡ Value v n =
-    sym (ap (λ (t : Bool). cond t (Value (decimal 0 f) (at + length f)) (Fault (at + good_part f))) g) ∙ e in
-    let z : ◌≡◌ {A = ℕ} 0 1 = cc in absurd (omega arith))
+    by_test (is_number (field_of (drop at s)))
+    (λ g. let h = same_number v n _ _ (simp g at e) in record { good = g; value = h.0; next = h.1 })
+    (λ g. absurd (let h = simp g at e in cc))
 
-pub fault-here : (s : List ℕ) (at k : ℕ) → number_at s at ≡ Fault k → is_number (field_of (drop at s)) ≡ false
+pub fault-here : (s : List ℕ) (at k : ℕ) → stopped_at k ≡ number_at s at → is_number (field_of (drop at s)) ≡ false
 unfolding number_at number_of
 fault-here s at k e =
-    let f = field_of (drop at s) in
-    by_test (is_number f)
-    (λ g. let h : Value (decimal 0 f) (at + length f) ≡ Fault k =
-    sym (ap (λ (t : Bool). cond t (Value (decimal 0 f) (at + length f)) (Fault (at + good_part f))) g) ∙ e in
-    let z : ◌≡◌ {A = ℕ} 0 1 = cc in absurd (omega arith))
-    (λ g. g)
+    by_test (is_number (field_of (drop at s))) (λ g. absurd (let h = simp g at e in cc)) (λ g. g)
 
 -- ---- where a number ends
 
@@ -142,9 +134,9 @@ pub record Ends (s : List ℕ) (at n : ℕ) : Type 0 where
   pub inside : n ≤ length s
   pub stops : stop_in (drop n s) ≡ true
 
-pub ends : (s : List ℕ) (at v n : ℕ) (num : Num) → num ≡ number_at s at → num ≡ Value v n → at ≤ length s → Ends s at n
-ends s at v n num p q l =
-    let h = value-here s at v n (sym p ∙ q) in
+pub ends : (s : List ℕ) (at v n : ℕ) → number_to v n ≡ number_at s at → at ≤ length s → Ends s at n
+ends s at v n p l =
+    let h = value-here s at v n p in
     let e = left_at s at v n h in
     record {
       after = omega (arith, number-length (field_of (drop at s)) h.good);
@@ -153,10 +145,6 @@ ends s at v n num p q l =
     }
 
 -- ---- one byte of it
-
--- the byte that was read is the first of what is left
-pub first-is : (s : List ℕ) (i b : ℕ) → ByteAt s i b → i < length s → drop i s ≡ b ∷ drop (i + 1) s
-first-is s i b h l = cc (at_first s i l, add-one i, h.is)
 
 pub not-stop : (b : ℕ) (bs : List ℕ) → (b ≡ 9 → ⊥) → (b ≡ 10 → ⊥) → stop_in (b ∷ bs) ≡ false
 unfolding stop_in is_stop

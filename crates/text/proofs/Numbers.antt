@@ -1,21 +1,22 @@
 -- Reading a number byte by byte: what is still to come of it, from the value so far and the bytes left. Assumes nothing.
-use Prim.Native.Nat.{ℕ, suc, ◌+◌, ◌-◌, ◌*◌, ◌≤◌, ◌<◌}
+use Prim.Native.Nat.{ℕ, ◌+◌, ◌-◌, ◌*◌, ◌≤◌, ◌<◌}
 use mathlib.Core.Path.{◌≡◌, sym, ap, ◌∙◌}
 use mathlib.Core.List.{List, [], ◌∷◌}
-use mathlib.Core.Bool.{Bool, true, false, cond, not, ◌&&◌, ◌||◌, false≢true, true≢false}
+use mathlib.Core.Bool.{Bool, true, false, cond, not, ◌&&◌, ◌||◌, false≢true, true≢false, and-false, or-true}
 use native.Mathlib.Omega.{arith}
 use native.Mathlib.Nat.{add-zero, zero-add}
 use native.Mathlib.Numerals.{add-one}
-use lib.ListN.{length, drop, get_or}
+use lib.ListN.{length, drop, get_or, drop_of_length-le}
 use lib.Dec.{ltb, leb, eqb}
 use borrow.Author.Tests.{le-ltb, lt-ltb, le-leb, lt-leb, ne_eqb, leb-true, leb-false, ltb-true, eqb-true, eqb-false}
 use Rattle.rules.specs.Lists.{all, is_empty}
 use Rattle.rules.specs.Text.{is_digit, decimal, largest, is_number}
-use Rattle.text.specs.declared.Num.{Num}
-use Rattle.text.specs.declared.Num.TheVariants.{Value, Fault}
-use Rattle.text.specs.Number.{is_stop, digit_in, stop_in, field_of, goes, good_from, good_part, number_of, number_at}
-use Rattle.text.proofs.Tools.{by_test, by_order, and-false, or-true, shift}
-use Rattle.text.proofs.Bytes.{at_first, digit_end}
+use Rattle.std.specs.Prelude.{Some, None, Result}
+use Rattle.text.specs.declared.Numeral.{Numeral}
+use Rattle.text.specs.declared.Stopped.{Stopped}
+use Rattle.text.specs.Number.{DigitAt, is_stop, digit_in, stop_in, field_of, goes, good_from, good_part, number_to, stopped_at, number_of, number_at}
+use Rattle.text.proofs.Tools.{by_test, by_order, shift}
+use Rattle.text.proofs.Bytes.{at_first}
 
 value_grows : (v : ℕ) (f : List ℕ) → v ≤ decimal v f
 value_grows v [] = omega arith
@@ -82,8 +83,8 @@ number-all b [] = by_test (is_digit b) (λ d. simp (d, zero-add)) (λ d. simp d)
 number-all b (c ∷ bs) = by_test (is_digit b) (λ d. simp (d, zero-add, zero-digit b d)) (λ d. simp d)
 
 -- what reading comes to, from the value so far, the position, and the field's bytes that are left
-pub read_from : ℕ → ℕ → List ℕ → Num
-read_from v i f = cond (all_of v f) (Value (decimal v f) (i + length f)) (Fault (i + good_from v f))
+pub read_from : ℕ → ℕ → List ℕ → Result Numeral Stopped
+read_from v i f = cond (all_of v f) (number_to (decimal v f) (i + length f)) (stopped_at (i + good_from v f))
 
 value-first : (b : ℕ) (bs : List ℕ) → decimal 0 (b ∷ bs) ≡ decimal (b - 48) bs
 value-first b bs = ap (λ (v : ℕ). decimal v bs) (zero-add (b - 48))
@@ -93,11 +94,11 @@ module _ (v i b : ℕ) (bs : List ℕ) (d : is_digit b ≡ true) where
   unfolding read_from field_of good_from
   read_more p s = simp (digit-runs b d, all-step, goes-yes v b d (lt-ltb 0 v p) (le-leb v 99999999 s), shift)
 
-  read-zero : v ≡ 0 → read_from v i (field_of (b ∷ bs)) ≡ Fault i
+  read-zero : v ≡ 0 → read_from v i (field_of (b ∷ bs)) ≡ stopped_at i
   unfolding read_from field_of good_from
   read-zero p = simp (digit-runs b d, all-step, goes-zero v b d (le-ltb 0 v (omega arith)), add-zero)
 
-  read-big : 99999999 < v → read_from v i (field_of (b ∷ bs)) ≡ Fault i
+  read-big : 99999999 < v → read_from v i (field_of (b ∷ bs)) ≡ stopped_at i
   unfolding read_from field_of good_from
   read-big p = simp (digit-runs b d, all-step, goes-big v b d (lt-leb v 99999999 p), add-zero)
 
@@ -111,95 +112,93 @@ module _ (v i b : ℕ) (bs : List ℕ) (d : is_digit b ≡ true) where
       let f = field_of bs in
       let t : is_number (b ∷ f) ≡ all_of (b - 48) f = number-all b f ∙ simp d in
       ap (λ (g : List ℕ). number_of g i) field-more
-      ∙ ap (λ (n : Bool). cond n (Value (decimal 0 (b ∷ f)) (i + length (b ∷ f))) (Fault (i + good_part (b ∷ f)))) t
-      ∙ ap (λ (v : ℕ). cond (all_of (b - 48) f) (Value v (i + length (b ∷ f))) (Fault (i + good_part (b ∷ f)))) (value-first b f)
+      ∙ ap (λ (n : Bool). cond n (number_to (decimal 0 (b ∷ f)) (i + length (b ∷ f))) (stopped_at (i + good_part (b ∷ f)))) t
+      ∙ ap (λ (v : ℕ). cond (all_of (b - 48) f) (number_to v (i + length (b ∷ f))) (stopped_at (i + good_part (b ∷ f)))) (value-first b f)
       ∙ simp (d, shift)
 
-digit-yes : (b : ℕ) (bs : List ℕ) → is_digit b ≡ true → digit_in (b ∷ bs) ≡ b - 48
+digit-none : (b : ℕ) (bs : List ℕ) → None ≡ digit_in (b ∷ bs) → is_digit b ≡ false
 unfolding digit_in
-digit-yes b bs d = simp d
-
-digit_no : (b : ℕ) (bs : List ℕ) → is_digit b ≡ false → digit_in (b ∷ bs) ≡ 10
-unfolding digit_in
-digit_no b bs d = simp d
-
-ten_not : (b : ℕ) (bs : List ℕ) → 10 ≤ digit_in (b ∷ bs) → is_digit b ≡ false
-ten_not b bs h =
-    by_test (is_digit b)
-    (λ d. absurd (let r = digit_range b d in omega (arith, digit-yes b bs d)))
-    (λ d. d)
-
-digit-most : (bs : List ℕ) → digit_in bs ≤ 10
-unfolding digit_in
-digit-most [] = omega arith
-digit-most (b ∷ bs) =
-    by_test (is_digit b)
-    (λ d. let r = digit_range b d in simp d (omega arith))
-    (λ d. simp d (omega arith))
+digit-none b bs e = by_test (is_digit b) (λ d. absurd (let f : None ≡ Some (b - 48) = simp d at e in cc)) (λ d. d)
 
 -- the digit that the code read, as the first byte of what is left
-digit-here : (s : List ℕ) (i : ℕ) → digit_in (drop i s) < 10
-    → (b : ℕ) × (drop i s ≡ b ∷ drop (i + 1) s) × (is_digit b ≡ true) × (digit_in (drop i s) ≡ b - 48) × (i < length s)
-digit-here s i h =
+pub record DigitHere (s : List ℕ) (i d : ℕ) : Type 0 where
+  pub byte : ℕ
+  pub first : drop i s ≡ byte ∷ drop (i + 1) s
+  pub digit : is_digit byte ≡ true
+  pub is : d ≡ byte - 48
+  pub small : d ≤ 9
+  pub inside : i < length s
+
+some-digit : (b : ℕ) (bs : List ℕ) (d : ℕ) → Some d ≡ digit_in (b ∷ bs) → (is_digit b ≡ true) × (d ≡ b - 48)
+unfolding digit_in
+some-digit b bs d e =
+    by_test (is_digit b)
+    (λ t. (t, let f : Some d ≡ Some (b - 48) = simp t at e in cc))
+    (λ t. absurd (let f : Some d ≡ None = simp t at e in cc))
+
+digit-here : (s : List ℕ) (i d : ℕ) → Some d ≡ digit_in (drop i s) → DigitHere s i d
+unfolding digit_in
+digit-here s i d e =
     by_order i (length s)
-    (λ l. by_test (is_digit (get_or s i 0))
-    (λ d. (get_or s i 0, rw add-one (at_first s i l), d, simp (at_first s i l, digit-yes (get_or s i 0) (drop (suc i) s) d), l))
-    (λ d. absurd (omega (arith, h, simp (digit_no (get_or s i 0) (drop (suc i) s) d) at (ap digit_in (at_first s i l))))))
-    (λ l. absurd (omega (arith, h, digit_end s i l)))
+    (λ l. let f : drop i s ≡ get_or s i 0 ∷ drop (i + 1) s = rw add-one (at_first s i l) in
+    let w = some-digit (get_or s i 0) (drop (i + 1) s) d (e ∙ ap digit_in f) in
+    let r = digit_range (get_or s i 0) w.0 in
+    record { byte = get_or s i 0; first = f; digit = w.0; is = w.1; small = omega (arith, w.1); inside = l })
+    (λ l. absurd (let f : Some d ≡ None = e ∙ ap digit_in (drop_of_length-le s l) in cc))
 
 -- ---- what the code's tests say of what is still to come
 
 -- what is still to come of a number, at a position of a text
-pub read_at : List ℕ → ℕ → ℕ → Num
+pub read_at : List ℕ → ℕ → ℕ → Result Numeral Stopped
 read_at s v i = read_from v i (field_of (drop i s))
 
 -- no digit at the front: no number, and nothing more of one
-none_first : (at : ℕ) (bs : List ℕ) → 10 ≤ digit_in bs → number_of (field_of bs) at ≡ Fault at
+none_first : (at : ℕ) (bs : List ℕ) → None ≡ digit_in bs → number_of (field_of bs) at ≡ stopped_at at
 unfolding number_of field_of good_part digit_in
 none_first at [] h = simp add-zero
-none_first at (b ∷ bs) h = by_test (is_stop b) (λ e. simp (e, add-zero)) (λ e. simp (e, ten_not b bs h, add-zero))
+none_first at (b ∷ bs) h = by_test (is_stop b) (λ e. simp (e, add-zero)) (λ e. simp (e, digit-none b bs h, add-zero))
 
-end_here : (v i : ℕ) (bs : List ℕ) → v ≤ 999999999 → 10 ≤ digit_in bs → stop_in bs ≡ true → read_from v i (field_of bs) ≡ Value v i
+end_here : (v i : ℕ) (bs : List ℕ) → v ≤ 999999999 → None ≡ digit_in bs → stop_in bs ≡ true → read_from v i (field_of bs) ≡ number_to v i
 unfolding read_from all_of field_of good_from stop_in
 end_here v i [] s h e = simp (le-leb v 999999999 s, add-zero)
 end_here v i (b ∷ bs) s h e = simp (e, le-leb v 999999999 s, add-zero)
 
-fault-here : (v i : ℕ) (bs : List ℕ) → 10 ≤ digit_in bs → stop_in bs ≡ false → read_from v i (field_of bs) ≡ Fault i
+fault-here : (v i : ℕ) (bs : List ℕ) → None ≡ digit_in bs → stop_in bs ≡ false → read_from v i (field_of bs) ≡ stopped_at i
 unfolding read_from all_of field_of good_from stop_in
 fault-here v i [] h e = absurd (true≢false e)
-fault-here v i (b ∷ bs) h e = simp (e, ten_not b bs h, goes-not v b (ten_not b bs h), add-zero)
+fault-here v i (b ∷ bs) h e = simp (e, digit-none b bs h, goes-not v b (digit-none b bs h), add-zero)
 
--- The loop of `number`: d is the digit at i, 10 for none, and `read_at s v i` is what is still to come.
-module _ (s : List ℕ) (at v i d : ℕ) where
-  pub number-none : d ≡ digit_in (drop at s) → d ≡ 10 → Fault at ≡ number_at s at
+-- The loop of `number`: `read_at s v i` is what is still to come, and d the digit at i.
+module _ (s : List ℕ) (at v i : ℕ) where
+  pub number-none : DigitAt s at None → stopped_at at ≡ number_at s at
   unfolding number_at
-  number-none e h = sym (none_first at (drop at s) (omega arith))
+  number-none h = sym (none_first at (drop at s) h.is)
 
-  pub number-first : d ≡ digit_in (drop at s) → (d ≡ 10 → ⊥) → number_at s at ≡ read_at s d (at + 1)
-  unfolding number_at read_at
-  number-first e n = let w = digit-here s at (omega (arith, digit-most (drop at s))) in cc (number_more 0 at w.0 (drop (at + 1) s) w.2)
-
-  pub number-more_at : number_at s at ≡ read_at s v i → d ≡ digit_in (drop i s) → d < 10 → (v ≡ 0 → ⊥) → v ≤ 99999999
-      → number_at s at ≡ read_at s (v * 10 + d) (i + 1)
+  pub number_end : number_at s at ≡ read_at s v i → v ≤ 999999999 → DigitAt s i None → true ≡ stop_in (drop i s)
+      → number_to v i ≡ number_at s at
   unfolding read_at
-  number-more_at k e h p q = let w = digit-here s i (omega arith) in cc (read_more v i w.0 (drop (i + 1) s) w.2 (omega arith) q)
+  number_end k m h e = sym (k ∙ end_here v i (drop i s) m h.is (sym e))
 
-  pub number-zero : number_at s at ≡ read_at s v i → d ≡ digit_in (drop i s) → d < 10 → v ≡ 0 → Fault i ≡ number_at s at
+  pub number-fault : number_at s at ≡ read_at s v i → DigitAt s i None → false ≡ stop_in (drop i s) → stopped_at i ≡ number_at s at
   unfolding read_at
-  number-zero k e h p = let w = digit-here s i (omega arith) in cc (read-zero v i w.0 (drop (i + 1) s) w.2 p)
+  number-fault k h e = sym (k ∙ fault-here v i (drop i s) h.is (sym e))
 
-  pub number-big : number_at s at ≡ read_at s v i → d ≡ digit_in (drop i s) → d < 10 → 99999999 < v → Fault i ≡ number_at s at
-  unfolding read_at
-  number-big k e h p = let w = digit-here s i (omega arith) in cc (read-big v i w.0 (drop (i + 1) s) w.2 p)
+  module _ (d : ℕ) where
+    pub number-first : DigitAt s at (Some d) → number_at s at ≡ read_at s d (at + 1)
+    unfolding number_at read_at
+    number-first h = let w = digit-here s at d h.is in cc (number_more 0 at w.byte (drop (at + 1) s) w.digit)
 
-  pub number_end : (b : Bool) → number_at s at ≡ read_at s v i → v ≤ 999999999 → d ≡ digit_in (drop i s) → 10 ≤ d
-      → b ≡ stop_in (drop i s) → b ≡ true → Value v i ≡ number_at s at
-  unfolding read_at
-  number_end b k m e h p q = sym (k ∙ end_here v i (drop i s) m (omega arith) (sym p ∙ q))
+    pub number-more_at : number_at s at ≡ read_at s v i → DigitAt s i (Some d) → (v ≡ 0 → ⊥) → v ≤ 99999999
+        → number_at s at ≡ read_at s (v * 10 + d) (i + 1)
+    unfolding read_at
+    number-more_at k h p q = let w = digit-here s i d h.is in cc (read_more v i w.byte (drop (i + 1) s) w.digit (omega arith) q)
 
-  pub number-fault : (b : Bool) → number_at s at ≡ read_at s v i → d ≡ digit_in (drop i s) → 10 ≤ d
-      → b ≡ stop_in (drop i s) → b ≡ false → Fault i ≡ number_at s at
-  unfolding read_at
-  number-fault b k e h p q = sym (k ∙ fault-here v i (drop i s) (omega arith) (sym p ∙ q))
+    pub number-zero : number_at s at ≡ read_at s v i → DigitAt s i (Some d) → v ≡ 0 → stopped_at i ≡ number_at s at
+    unfolding read_at
+    number-zero k h p = let w = digit-here s i d h.is in cc (read-zero v i w.byte (drop (i + 1) s) w.digit p)
 
-pub ruleset number-laws = (number-none, number-first, number-more_at, number-zero, number-big, number_end, number-fault)
+    pub number-big : number_at s at ≡ read_at s v i → DigitAt s i (Some d) → 99999999 < v → stopped_at i ≡ number_at s at
+    unfolding read_at
+    number-big k h p = let w = digit-here s i d h.is in cc (read-big v i w.byte (drop (i + 1) s) w.digit p)
+
+pub ruleset number_laws = (number-none, number-first, number-more_at, number-zero, number-big, number_end, number-fault)

@@ -1,8 +1,9 @@
 -- Reading a line field by field: what is still to come of its row, from a position at which a field has ended. Assumes nothing.
-use Prim.Native.Nat.{ℕ, zero, suc, ◌+◌, ◌-◌, ◌≤◌, ◌<◌}
+use Prim.Native.Nat.{ℕ, zero, suc, ◌+◌, ◌≤◌, ◌<◌}
 use mathlib.Core.Path.{◌≡◌, refl, sym, ap, ◌∙◌}
+use mathlib.Core.Logic.{◌⊎◌, ⊎_elim}
 use mathlib.Core.List.{List, [], ◌∷◌, ◌++◌, append_assoc, append-nil}
-use mathlib.Core.Bool.{Bool, true, false, cond, false≢true, true≢false}
+use mathlib.Core.Bool.{Bool, true, false, cond, false≢true, true≢false, and-false}
 use native.Mathlib.Omega.{arith}
 use native.Mathlib.Nat.{add-zero, zero-add}
 use lib.ListN.{length, drop, set, drop_of_length-le, length-append}
@@ -11,15 +12,14 @@ use borrow.Author.Tests.{le-leb, lt-leb, ne_eqb, eqb-true, eqb-false}
 use mir.Val.{bool_byte}
 use Rattle.rules.specs.Lists.{is_empty}
 use Rattle.rules.specs.Text.{Line, fields, decimal, is_number, leading}
-use Rattle.text.specs.declared.Num.{Num}
-use Rattle.text.specs.declared.Num.TheVariants.{Value, Fault}
 use Rattle.text.specs.declared.Row.{Row}
-use Rattle.text.specs.Number.{is_stop, stop_in, field_of, number_at, ByteAt}
+use Rattle.text.specs.Number.{is_stop, stop_in, field_of, number_to, stopped_at, number_at, ByteAt}
 use Rattle.text.specs.Line.{next_at, padded, bad_field, is_letter, unread_row, read_row, row_from, row_at}
-use Rattle.text.proofs.Tools.{by_test, by_order, and-false, shift}
+use Rattle.text.proofs.Tools.{by_test, by_order, shift}
 use Rattle.text.proofs.Lines.{body_of, is_ended, line_length, line-is, next-is}
 use Rattle.text.proofs.Fields.{left_of, fields_left, stop-field, by_byte, fields_split, ended-split, line-split}
-use Rattle.text.proofs.Fields.{leading-more, leading-stop, value-here, fault-here, left_at, Ends, ends, first-is, not-stop, run_field}
+use Rattle.text.proofs.Fields.{leading-more, leading-stop, value-here, fault-here, left_at, Ends, ends, not-stop, run_field}
+use Rattle.text.proofs.Bytes.{first-is}
 
 -- ---- the first k numbers, filled one by one
 
@@ -226,83 +226,58 @@ module _ (s : List ℕ) (at b : ℕ) where
   text-here : ByteAt s at b → at < length s → row_at s at ≡ row_text at (b ∷ drop (at + 1) s)
   text-here h l = row-text s at ∙ ap (row_text at) (first-is s at b h l)
 
-  pub row_empty : (r : Row) → ByteAt s at b → at < length s → b ≡ 10 → r ≡ unread_row 0 → r ≡ row_at s at
-  row_empty r h l n e = e ∙ sym (text-here h l ∙ text-line at b (drop (at + 1) s) n)
+  -- a line that is empty, or none
+  pub row_empty : ByteAt s at b → ((at < length s) × (b ≡ 10)) ⊎ (length s ≤ at) → unread_row 0 ≡ row_at s at
+  row_empty h o =
+      by_order at (length s)
+      (λ l. ⊎_elim (λ n. sym (text-here h l ∙ text-line at b (drop (at + 1) s) n.1)) (λ m. absurd (omega arith)) o)
+      (λ l. sym (row-text s at ∙ ap (row_text at) (drop_of_length-le s l) ∙ text-none at))
 
-  pub row_low : (r : Row) → ByteAt s at b → at < length s → b < 65 → (b ≡ 10 → ⊥) → r ≡ unread_row 1 → r ≡ row_at s at
-  row_low r h l u n e = e ∙ sym (text-here h l ∙ text_bad at b (drop (at + 1) s) (letter_low b u) n)
+  -- a first byte that is no letter
+  pub row_other : ByteAt s at b → at < length s → (b ≡ 10 → ⊥) → (b < 65) ⊎ (90 < b) → unread_row 1 ≡ row_at s at
+  row_other h l n o = sym (text-here h l ∙ text_bad at b (drop (at + 1) s) (⊎_elim (letter_low b) (letter_high b) o) n)
 
-  pub row-high : (r : Row) → ByteAt s at b → 90 < b → r ≡ unread_row 1 → r ≡ row_at s at
-  row-high r h u e =
-      e ∙ sym (text-here h (h.inside (omega arith)) ∙ text_bad at b (drop (at + 1) s) (letter_high b u) (λ n. omega arith))
+  -- a letter that is no field of its own
+  pub row_long : ByteAt s at b → 65 ≤ b → b ≤ 90 → false ≡ stop_in (drop (at + 1) s) → unread_row 1 ≡ row_at s at
+  row_long h l u e = sym (text-here h (h.inside (omega arith)) ∙ text-long at b (drop (at + 1) s) l u (sym e))
 
-  pub row-long : (r : Row) (t : Bool) → ByteAt s at b → 65 ≤ b → b ≤ 90 → t ≡ stop_in (drop (at + 1) s) → t ≡ false
-      → r ≡ unread_row 1 → r ≡ row_at s at
-  row-long r t h l u p q e = e ∙ sym (text-here h (h.inside (omega arith)) ∙ text-long at b (drop (at + 1) s) l u (sym p ∙ q))
-
-  pub row-start : ByteAt s at b → 65 ≤ b → b ≤ 90 → stop_in (drop (at + 1) s) ≡ true → row_at s at ≡ row_left s b 0 twelve (at + 1)
+  pub row_start : ByteAt s at b → 65 ≤ b → b ≤ 90 → stop_in (drop (at + 1) s) ≡ true → row_at s at ≡ row_left s b 0 twelve (at + 1)
   unfolding row_left padded
-  row-start h l u e = text-here h (h.inside (omega arith)) ∙ text-start at b (drop (at + 1) s) l u e
-
-pub row-past : (s : List ℕ) (at : ℕ) (r : Row) → length s ≤ at → r ≡ unread_row 0 → r ≡ row_at s at
-row-past s at r h e = e ∙ sym (row-text s at ∙ ap (row_text at) (drop_of_length-le s h) ∙ text-none at)
+  row_start h l u e = text-here h (h.inside (omega arith)) ∙ text-start at b (drop (at + 1) s) l u e
 
 module _ (s : List ℕ) (at l c : ℕ) (ns : List ℕ) (i b : ℕ) where
-  pub row_more : (num : Num) (v n : ℕ) (ns' : List ℕ) → row_at s at ≡ row_left s l c ns i → ByteAt s i b → b ≡ 9
-      → num ≡ number_at s (i + 1) → num ≡ Value v n → ns' ≡ set ns c v → row_at s at ≡ row_left s l (c + 1) ns' n
+  pub row_more : (v n : ℕ) → row_at s at ≡ row_left s l c ns i → ByteAt s i b → b ≡ 9 → number_to v n ≡ number_at s (i + 1)
+      → row_at s at ≡ row_left s l (c + 1) (set ns c v) n
   unfolding row_left
-  row_more num v n ns' k h t p q m =
+  row_more v n k h t p =
       let f = first-is s i b h (h.inside (omega arith)) in
-      let w = value-here s (i + 1) v n (sym p ∙ q) in
+      let w = value-here s (i + 1) v n p in
       cc (row-turn l c ns i (drop (i + 1) s) w.good, left_at s (i + 1) v n w)
 
-  pub row-fault : (num : Num) (f : ℕ) → row_at s at ≡ row_left s l c ns i → ByteAt s i b → b ≡ 9
-      → num ≡ number_at s (i + 1) → num ≡ Fault f → broken_row l c ns ≡ row_at s at
+  pub row_fault : (f : ℕ) → row_at s at ≡ row_left s l c ns i → ByteAt s i b → b ≡ 9 → stopped_at f ≡ number_at s (i + 1)
+      → broken_row l c ns ≡ row_at s at
   unfolding row_left
-  row-fault num f k h t p q =
-      let e = first-is s i b h (h.inside (omega arith)) in
-      cc (row_bad l c ns i (drop (i + 1) s) (fault-here s (i + 1) f (sym p ∙ q)))
+  row_fault f k h t p =
+      let g = first-is s i b h (h.inside (omega arith)) in
+      cc (row_bad l c ns i (drop (i + 1) s) (fault-here s (i + 1) f p))
 
   -- behind the numbers stands the newline, or the text's end
-  pub row-ended : row_at s at ≡ row_left s l c ns i → stop_in (drop i s) ≡ true → ByteAt s i b → (b ≡ 9 → ⊥)
+  pub row_ended : row_at s at ≡ row_left s l c ns i → stop_in (drop i s) ≡ true → ByteAt s i b → (b ≡ 9 → ⊥)
       → ended_row l c ns (eqb b 10) (i + bool_byte (eqb b 10)) ≡ row_at s at
   unfolding row_left
-  row-ended k p h t =
+  row_ended k p h t =
       by_order i (length s)
       (λ q. by_test (eqb b 10)
       (λ n. let f = first-is s i b h q in let e = eqb-true b 10 n in simp n (cc (row_line l c ns i (drop (i + 1) s))))
       (λ n. let f = first-is s i b h q in absurd (false≢true (cc (not-stop b (drop (i + 1) s) t (eqb-false b 10 n))))))
       (λ q. simp (ne_eqb b 10 (λ n. omega (arith, h.inside (omega arith))), add-zero) (cc (row_end l c ns i [], drop_of_length-le s q)))
 
-pub ruleset row_laws = (row_empty, row_low, row-past, row-high, row-long, row-start, row_more, row-fault, row-ended)
+-- where the number behind a tab ends
+pub turn_ends : (s : List ℕ) (i b v n : ℕ) → ByteAt s i b → b ≡ 9 → number_to v n ≡ number_at s (i + 1) → Ends s (i + 1) n
+turn_ends s i b v n h t p = ends s (i + 1) v n p (omega (arith, h.inside (omega arith)))
 
 pub bit-most : (b : Bool) → bool_byte b ≤ 1
 bit-most true = omega arith
 bit-most false = omega arith
 
--- ---- where the loop stands, before the first turn and after each
-
-pub start_stops : (t : Bool) (bs : List ℕ) → t ≡ stop_in bs → t ≡ true → stop_in bs ≡ true
-start_stops t bs p q = sym p ∙ q
-
-pub start-inside : (s : List ℕ) (at b : ℕ) → ByteAt s at b → 65 ≤ b → at + 1 ≤ length s
-start-inside s at b h l = omega (arith, h.inside (omega arith))
-
-module _ (s : List ℕ) (i b v n c : ℕ) (num : Num) (h : ByteAt s i b) (t : b ≡ 9)
-    (p : num ≡ number_at s (i + 1)) (q : num ≡ Value v n) where
-  turn-ends : Ends s (i + 1) n
-  turn-ends = ends s (i + 1) v n num p q (omega (arith, h.inside (omega arith)))
-
-  pub turn_stops : stop_in (drop n s) ≡ true
-  turn_stops = turn-ends.stops
-
-  pub turn_inside : n ≤ length s
-  turn_inside = turn-ends.inside
-
-  pub turn-count : c ≤ i → c + 1 ≤ n
-  turn-count k = let e = turn-ends in omega arith
-
-  pub turn-less : length s - n < length s - i
-  turn-less = let e = turn-ends in omega arith
-
-pub ruleset turn-laws = (turn_stops, turn_inside, turn-count, turn-less)
+pub ruleset row_laws = (row_empty, row_start, row_ended, bit-most)

@@ -7,16 +7,23 @@ ghost use Rattle.text.specs.Line.{unread_row, row_at};
 
 pub mod reader; // reader.rt: a text and a position in it, held together
 
-// What reading a number at a position finds: the number and where its field ends, or where the reader stopped.
+// A number that was read, and where its field ends.
 #[derive(Clone, Copy)]
-pub enum Num {
-    Value { value: u32, next: usize },
-    Fault { at: usize },
+pub struct Numeral {
+    pub value: u32,
+    pub next: usize,
+}
+
+// Where the reader of a number stopped, in a field that is none.
+#[derive(Clone, Copy)]
+pub struct Stopped {
+    pub at: usize,
 }
 
 // A line that was read: its letter, how many numbers it has up to the first field that is none, the first twelve of them, that
 // field (1 where the first field is no letter, 0 where there is none), whether a newline ends the line, and where the next one
-// starts. A line that is empty has the letter 0 and no bad field.
+// starts. A line that is empty has the letter 0 and no bad field. What a row is stands in a definition (`row_at`), with these numbers; the
+// twelve are an array with a count beside it, since a library crate has no heap.
 #[derive(Clone, Copy)]
 pub struct Row {
     pub letter: u8,
@@ -27,79 +34,59 @@ pub struct Row {
     pub next: usize,
 }
 
-// The digit that stands at i, 10 where none stands there.
-fn digit(s: &[u8], i: usize) -> u32
+// The digit that stands at i, if one does.
+#[tactic(auto, using(crate::proofs::Bytes::digit_laws))]
+fn digit(s: &[u8], i: usize) -> Option<u32>
     ensures { DigitAt s.now i result }
 {
-    if i < s.len() {
-        let b = s[i];
-        if b < 48 {
-            return 10;
-        }
-        if 57 < b {
-            return 10;
-        }
-        return (b - 48) as u32;
+    let b = byte_at(s, i);
+    if b.is_ascii_digit() {
+        return Some((b - b'0') as u32);
     }
-    10
+    None
 }
 
 // Whether a field may end at i: at a tab, a newline or the end.
+#[tactic(auto, using(crate::proofs::Bytes::stop_laws))]
 fn stops(s: &[u8], i: usize) -> bool
     ensures { result ≡ stop_in (drop i s.now) }
 {
-    if i < s.len() {
-        let b = s[i];
-        if b == 9 {
-            return true;
-        }
-        if b == 10 {
-            return true;
-        }
-        return false;
-    }
-    true
+    matches!(s.get(i), None | Some(b'\t' | b'\n'))
 }
 
-// The byte at i, 0 past the end.
+// The byte at i, 0 past the end, as its definition says: a line ends there as at a byte that is neither tab nor newline.
 pub fn byte_at(s: &[u8], i: usize) -> u8
     ensures { ByteAt s.now i result }
 {
-    if i < s.len() {
-        return s[i];
-    }
-    0
+    s.get(i).copied().unwrap_or(0)
 }
 
 // The number that stands at a position, up to the end of its field.
-pub fn number(s: &[u8], at: usize) -> Num
+#[tactic(auto, using(crate::proofs::Numbers::number_laws))]
+pub fn number(s: &[u8], at: usize) -> Result<Numeral, Stopped>
     ensures { result ≡ number_at s.now at }
 {
-    let first = digit(s, at);
-    if first == 10 {
-        return Num::Fault { at };
-    }
-    let mut v = first;
+    let Some(first) = digit(s, at) else {
+        return Err(Stopped { at });
+    };
+    let mut value = first;
     let mut i = at + 1;
-    let mut d = digit(s, i);
-    while d < 10 {
-        if v == 0 {
-            return Num::Fault { at: i };
+    // no `for`: where the digits end is part of the answer
+    while let Some(d) = digit(s, i) {
+        if value == 0 || 99999999 < value {
+            return Err(Stopped { at: i });
         }
-        if 99999999 < v {
-            return Num::Fault { at: i };
-        }
-        v = v * 10 + d;
+        value = value * 10 + d;
         i += 1;
-        d = digit(s, i);
     }
     if stops(s, i) {
-        return Num::Value { value: v, next: i };
+        return Ok(Numeral { value, next: i });
     }
-    Num::Fault { at: i }
+    Err(Stopped { at: i })
 }
 
 // Puts v at k, if there is a place k.
+#[tactic(auto, using(crate::proofs::Bytes::set_past))]
 fn put(nums: &mut [u32], k: usize, v: u32)
     ensures { nums.new ≡ set nums.old k v }
 {
@@ -109,6 +96,7 @@ fn put(nums: &mut [u32], k: usize, v: u32)
 }
 
 // A line that has no letter.
+#[tactic(auto, unfolding(crate::specs::Line::unread_row, crate::specs::Line::padded))]
 fn unread(bad: usize) -> Row
     ensures { result ≡ unread_row bad }
 {
@@ -123,6 +111,7 @@ fn unread(bad: usize) -> Row
 }
 
 // The line that starts at a position with a letter that is a field of its own.
+#[tactic(auto, using(crate::proofs::Reading::row_laws))]
 fn lettered_row(s: &[u8], at: usize, letter: u8) -> Row
     requires byte_at { ByteAt s.now at letter }
     requires le_letter { (65 ≤ letter) × (letter ≤ 90) }
@@ -132,9 +121,9 @@ fn lettered_row(s: &[u8], at: usize, letter: u8) -> Row
     let mut i = at + 1;
     let mut nums = [0u32; 12];
     let mut count: usize = 0;
-    let mut b = byte_at(s, i);
-    while b == 9 {
-        let Num::Value { value, next } = number(s, i + 1) else {
+    // the reader of a number says where the next field stands: nothing is counted
+    while byte_at(s, i) == b'\t' {
+        let Ok(Numeral { value, next }) = number(s, i + 1) else {
             return Row {
                 letter,
                 count,
@@ -147,9 +136,8 @@ fn lettered_row(s: &[u8], at: usize, letter: u8) -> Row
         put(&mut nums, count, value);
         count += 1;
         i = next;
-        b = byte_at(s, i);
     }
-    let ended = b == 10;
+    let ended = byte_at(s, i) == b'\n';
     Row {
         letter,
         count,
@@ -161,26 +149,18 @@ fn lettered_row(s: &[u8], at: usize, letter: u8) -> Row
 }
 
 // The line that starts at a position.
+#[tactic(auto, using(crate::proofs::Reading::row_laws))]
 fn row_at(s: &[u8], at: usize) -> Row
     ensures { result ≡ row_at s.now at }
 {
     let letter = byte_at(s, at);
-    if letter < 65 {
-        if at < s.len() {
-            if letter == 10 {
-                return unread(0);
-            }
-            return unread(1);
-        }
-        return unread(0);
+    if letter.is_ascii_uppercase() && stops(s, at + 1) {
+        return lettered_row(s, at, letter);
     }
-    if 90 < letter {
+    if at < s.len() && letter != b'\n' {
         return unread(1);
     }
-    if !stops(s, at + 1) {
-        return unread(1);
-    }
-    lettered_row(s, at, letter)
+    unread(0)
 }
 
 // The line that starts at a position, by the thin reader: every pass over the lines of a text asks for them here.

@@ -9,16 +9,17 @@ use native.Mathlib.Decide.{dec_lt}
 use lib.Dec.{eqb}
 use lib.ListN.{length}
 use borrow.Author.Tests.{le-ltb, leb-true, eqb-true}
-use Rattle.rules.specs.Lists.{Each}
+use Rattle.std.specs.Prelude.{Option, Some, None}
+use Rattle.rules.specs.Lists.{Each, one_if}
 use Rattle.rules.specs.Text.{largest}
 use Rattle.rules.specs.Eval.{open_object, close_object, open_list, close_list, null as nullToken}
 use Rattle.tokens.specs.Response.{Response, done, field, Content, value, null, values, object, objects, Objects, none, one, tokens, contents, listed, Within, WithinContent, WithinObjects, most_open, most_tokens, IsResponse}
-use Rattle.tokens.specs.Check.{is_value, is_label, state, start, broken, full_nest, deeper, shut, on_fields, on_content, on_first, on_values, on_objects, step_of, accepts}
+use Rattle.tokens.specs.Check.{is_value, is_label, state, start, onward, full_nest, deeper, shut, on_fields, on_content, on_first, on_values, on_objects, step_of, accepts}
 use Rattle.tokens.specs.declared.Mode.{Mode}
-use Rattle.tokens.specs.declared.Mode.TheVariants.{Fields, Labelled, Opened, InValues, InObjects, Broken}
+use Rattle.tokens.specs.declared.Mode.TheVariants.{Fields, Labelled, Opened, InValues, InObjects}
 use Rattle.tokens.specs.declared.State.{State}
 use Rattle.tokens.proofs.Labels.{LabelOf, label_of}
-use Rattle.tokens.proofs.Steps.{digit, nest, nest-full, nest-one, opened, closed_field, closed_row}
+use Rattle.tokens.proofs.Steps.{nest, nest-full, nest-one, opened, closed_field, closed_row}
 
 -- ---- what the check expects of the rest; A is what is expected behind the fields of this object
 
@@ -65,20 +66,15 @@ Wants Labelled st s = ContentThen (After st) (most_open - length st) s
 Wants Opened st s = ValuesThen (After st) (most_open - length st) s ⊎ ObjectsThen (After st) (most_open - length st) s
 Wants InValues st s = ValuesThen (After st) (most_open - length st) s
 Wants InObjects st s = ObjectsThen (After st) (most_open - length st) s
-Wants Broken st s = ⊥
 
--- ---- a broken check accepts nothing
+-- ---- where a token led nowhere, nothing is accepted
 
-dead : (s : List ℕ) → accepts s broken ≡ false
+never : {A : Type 0} (s : List ℕ) → accepts s None ≡ true → A
 unfolding accepts
-dead [] = refl
-dead (x ∷ s) = dead s
-
-never : {A : Type 0} (s : List ℕ) → accepts s broken ≡ true → A
-never s h = absurd (false≢true (sym (dead s) ∙ h))
+never s h = absurd (false≢true h)
 
 -- by what a test gave
-by_test : {W : Type 0} (s : List ℕ) (b : Bool) (p q : State) → accepts s (cond b p q) ≡ true
+by_test : {W : Type 0} (s : List ℕ) (b : Bool) (p q : Option State) → accepts s (cond b p q) ≡ true
     → (b ≡ true → accepts s p ≡ true → W) → (b ≡ false → accepts s q ≡ true → W) → W
 by_test s true p q h t f = t refl h
 by_test s false p q h t f = f refl h
@@ -95,13 +91,13 @@ row-joined x s a b c d e p q r t = rw (p, q, r, t) (simp append_assoc)
 
 module _
     (s : List ℕ)
-    (ih : (m : Mode) (st : List Bool) → length st ≤ most_open → accepts s (state m (nest st)) ≡ true → Wants m st s)
+    (ih : (m : Mode) (st : List Bool) → length st ≤ most_open → accepts s (onward m (nest st)) ≡ true → Wants m st s)
     (x : ℕ)
     (st : List Bool)
     (hs : length st ≤ most_open)
   where
     -- an object, with what follows it
-    inside : (b : Bool) → accepts s (deeper (digit b) (nest st)) ≡ true
+    inside : (b : Bool) → accepts s (deeper b (nest st)) ≡ true
         → record { fields : FieldsThen (After (b ∷ st)) (most_open - suc (length st)) s; room : length st < most_open }
     inside b h = go (dec_lt (length st) most_open)
       where
@@ -113,7 +109,7 @@ module _
     one_less : length st < most_open → most_open - suc (length st) ≡ (most_open - length st) - 1
     one_less h = omega arith
 
-    from-object : x ≡ open_object → accepts s (deeper 0 (nest st)) ≡ true → Wants Labelled st (x ∷ s)
+    from-object : x ≡ open_object → accepts s (deeper false (nest st)) ≡ true → Wants Labelled st (x ∷ s)
     unfolding tokens Within
     from-object p h =
         let o = inside false h in
@@ -128,7 +124,7 @@ module _
           after = a.then;
         }
 
-    from_row_lem : x ≡ open_object → accepts s (deeper 1 (nest st)) ≡ true → Wants InObjects st (x ∷ s)
+    from_row_lem : x ≡ open_object → accepts s (deeper true (nest st)) ≡ true → Wants InObjects st (x ∷ s)
     unfolding tokens Within
     from_row_lem p h =
         let o = inside true h in
@@ -157,7 +153,7 @@ module _
         let then = ih InObjects t (omega arith) (ap (accepts s) (sym (closed_row t)) ∙ h) in
         record { read = done; rest = x ∷ s; is = refl; within = tt; after = record { rest = s; is = rw p; then = then } }
 
-    from-label : LabelOf x → accepts s (state Labelled (nest st)) ≡ true → Wants Fields st (x ∷ s)
+    from-label : LabelOf x → accepts s (onward Labelled (nest st)) ≡ true → Wants Fields st (x ∷ s)
     unfolding tokens Within
     from-label v h =
         let i = ih Labelled st hs h in
@@ -170,7 +166,7 @@ module _
           after = j.after;
         }
 
-    from_list : x ≡ open_list → accepts s (state Opened (nest st)) ≡ true → Wants Labelled st (x ∷ s)
+    from_list : x ≡ open_list → accepts s (onward Opened (nest st)) ≡ true → Wants Labelled st (x ∷ s)
     unfolding tokens Within
     from_list p h =
         ⊎_elim
@@ -178,23 +174,23 @@ module _
         (λ i. record { read = objects i.read; rest = i.rest; is = rw (p, i.is) (simp append_assoc); within = i.within; after = i.after })
         (ih Opened st hs h)
 
-    from-value : x ≤ largest → accepts s (state InValues (nest st)) ≡ true → Wants InValues st (x ∷ s)
+    from-value : x ≤ largest → accepts s (onward InValues (nest st)) ≡ true → Wants InValues st (x ∷ s)
     from-value v h =
         let i = ih InValues st hs h in
         record { read = x ∷ i.read; rest = i.rest; is = ap (λ (z : List ℕ). x ∷ z) i.is; within = (v, i.within); after = i.after }
 
-    values_end : x ≡ close_list → accepts s (state Fields (nest st)) ≡ true → Wants InValues st (x ∷ s)
+    values_end : x ≡ close_list → accepts s (onward Fields (nest st)) ≡ true → Wants InValues st (x ∷ s)
     values_end p h = record { read = []; rest = s; is = rw p; within = tt; after = ih Fields st hs h }
 
-    objects_end : x ≡ close_list → accepts s (state Fields (nest st)) ≡ true → Wants InObjects st (x ∷ s)
+    objects_end : x ≡ close_list → accepts s (onward Fields (nest st)) ≡ true → Wants InObjects st (x ∷ s)
     unfolding tokens Within
     objects_end p h = record { read = none; rest = s; is = rw p; within = tt; after = ih Fields st hs h }
 
-    value-held : x ≤ largest → accepts s (state Fields (nest st)) ≡ true → Wants Labelled st (x ∷ s)
+    value-held : x ≤ largest → accepts s (onward Fields (nest st)) ≡ true → Wants Labelled st (x ∷ s)
     unfolding tokens Within
     value-held v h = record { read = value x; rest = s; is = refl; within = v; after = ih Fields st hs h }
 
-    null-held : x ≡ nullToken → accepts s (state Fields (nest st)) ≡ true → Wants Labelled st (x ∷ s)
+    null-held : x ≡ nullToken → accepts s (onward Fields (nest st)) ≡ true → Wants Labelled st (x ∷ s)
     unfolding tokens Within
     null-held p h = record { read = null; rest = s; is = rw p; within = tt; after = ih Fields st hs h }
 
@@ -231,25 +227,23 @@ module _
     one_more Opened h = in_list h
     one_more InValues h = in_values h
     one_more InObjects h = in_objects h
-    one_more Broken h = absurd (false≢true (sym (dead s) ∙ h))
 
-ended : (m : Mode) (st : List Bool) → accepts [] (state m (nest st)) ≡ true → Wants m st []
+ended : (m : Mode) (st : List Bool) → accepts [] (onward m (nest st)) ≡ true → Wants m st []
 unfolding accepts tokens Within
 ended Fields [] h = record { read = done; rest = []; is = refl; within = tt; after = refl }
 ended Fields (b ∷ st) h =
-    absurd (let q : 1 ≤ nest st = nest-one st in let z : 2 * nest st + digit b ≡ 1 = eqb-true _ _ h in omega arith)
+    absurd (let q : 1 ≤ nest st = nest-one st in let z : 2 * nest st + one_if b ≡ 1 = eqb-true _ _ h in omega arith)
 ended Labelled st h = absurd (false≢true h)
 ended Opened st h = absurd (false≢true h)
 ended InValues st h = absurd (false≢true h)
 ended InObjects st h = absurd (false≢true h)
-ended Broken st h = absurd (false≢true h)
 
-expected : (s : List ℕ) (m : Mode) (st : List Bool) → length st ≤ most_open → accepts s (state m (nest st)) ≡ true → Wants m st s
+expected : (s : List ℕ) (m : Mode) (st : List Bool) → length st ≤ most_open → accepts s (onward m (nest st)) ≡ true → Wants m st s
 unfolding accepts
 expected [] m st h p = ended m st p
 expected (x ∷ s) m st h p = one_more s (expected s) x st h m p
 
-pub accepted-response : (s : List ℕ) → length s ≤ most_tokens → accepts s start ≡ true → IsResponse s
+pub accepted-response : (s : List ℕ) → length s ≤ most_tokens → accepts s (Some start) ≡ true → IsResponse s
 accepted-response s b h =
     let i = expected s Fields [] (omega arith) h in
     let same : s ≡ tokens i.read = i.is ∙ ap (λ (z : List ℕ). tokens i.read ++ z) i.after ∙ append-nil (tokens i.read) in

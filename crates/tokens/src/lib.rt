@@ -2,9 +2,9 @@
 // what may come next and which objects are open.
 #![tactic(auto)]
 
-ghost use Rattle.std.specs.Prelude.{◌≡◌, ◌↔◌, true, ◌≤◌};
+ghost use Rattle.std.specs.Prelude.{◌≡◌, ◌↔◌, true};
 ghost use Rattle.tokens.specs.Response.{IsResponse};
-ghost use Rattle.tokens.specs.Check.{is_label, state, broken, deeper, shut, on_fields, on_content, on_first, on_values, on_objects, step_of, finished_at};
+ghost use Rattle.tokens.specs.Check.{is_label, onward, deeper, shut, on_fields, on_content, on_first, on_values, on_objects};
 
 use rules::{CLOSE_LIST, CLOSE_OBJECT, LABELS, NULL, OPEN_LIST, OPEN_OBJECT};
 
@@ -19,20 +19,19 @@ const MOST_TOKENS: usize = 16_384;
 const FULL_NEST: u32 = 65_536;
 
 // What may come next: a field or the end of the fields; the content behind a label; the first of a list or its end; a further value
-// or the end; a further object or the end; or nothing, since the sequence is no response.
-#[derive(Clone, Copy)]
+// or the end; a further object or the end.
+#[derive(Clone, Copy, PartialEq, Eq)]
 pub enum Mode {
     Fields,
     Labelled,
     Opened,
     InValues,
     InObjects,
-    Broken,
 }
 
 // A check on its way. In `nest`, below a leading 1, stands a binary digit for each open object, the innermost last: 1 where the object
-// is one of a list.
-#[derive(Clone, Copy)]
+// is one of a list. One number holds them all, since the memory is fixed, and an array would need its length beside it.
+#[derive(Clone, Copy, PartialEq, Eq)]
 pub struct State {
     pub mode: Mode,
     pub nest: u32,
@@ -42,146 +41,125 @@ pub struct State {
 pub fn is_label(x: u32) -> bool
     ensures { result ≡ is_label x }
 {
-    if x < LABELS {
-        return false;
+    (LABELS..=LARGEST_LABEL).contains(&x)
+}
+
+// ---- what a token leads to: the check as it goes on, or None where the sequence is no response
+
+// The check goes on, expecting `mode`, with the open objects `nest`.
+fn go_on(mode: Mode, nest: u32) -> Option<State>
+    ensures { result ≡ onward mode nest }
+{
+    Some(State { mode, nest })
+}
+
+// One more object open, if fewer than 16 are.
+fn go_in(in_list: bool, nest: u32) -> Option<State>
+    ensures { result ≡ deeper in_list nest }
+{
+    if nest < FULL_NEST {
+        go_on(Mode::Fields, 2 * nest + u32::from(in_list))
+    } else {
+        None
     }
-    x <= LARGEST_LABEL
-}
-
-// A check that expects m, with the open objects n.
-fn at(m: Mode, n: u32) -> State
-    ensures { result ≡ state m n }
-{
-    State { mode: m, nest: n }
-}
-
-// A broken check.
-fn failed() -> State
-    ensures { result ≡ broken }
-{
-    at(Mode::Broken, 1)
-}
-
-// One more object open, if fewer than 16 are; b is 1 where it stands in a list.
-fn go_in(b: u32, n: u32) -> State
-    requires { b ≤ 1 }
-    ensures { result ≡ deeper b n }
-{
-    if n < FULL_NEST {
-        return at(Mode::Fields, 2 * n + b);
-    }
-    failed()
 }
 
 // The innermost open object is closed, if one is open.
-fn go_out(n: u32) -> State
-    ensures { result ≡ shut n }
+fn go_out(nest: u32) -> Option<State>
+    ensures { result ≡ shut nest }
 {
-    if n < 2 {
-        return failed();
-    }
-    if n % 2 == 0 {
-        return at(Mode::Fields, n / 2);
-    }
-    at(Mode::InObjects, n / 2)
-}
-
-// The check after a token, where a field may come next or the fields end.
-fn on_fields(x: u32, n: u32) -> State
-    ensures { result ≡ on_fields x n }
-{
-    if is_label(x) {
-        return at(Mode::Labelled, n);
-    }
-    if x == CLOSE_OBJECT {
-        return go_out(n);
-    }
-    failed()
-}
-
-// The same behind a label.
-fn on_content(x: u32, n: u32) -> State
-    ensures { result ≡ on_content x n }
-{
-    if x <= LARGEST_VALUE {
-        return at(Mode::Fields, n);
-    }
-    if x == NULL {
-        return at(Mode::Fields, n);
-    }
-    if x == OPEN_OBJECT {
-        return go_in(0, n);
-    }
-    if x == OPEN_LIST {
-        return at(Mode::Opened, n);
-    }
-    failed()
-}
-
-// The same in a list of values.
-fn on_values(x: u32, n: u32) -> State
-    ensures { result ≡ on_values x n }
-{
-    if x <= LARGEST_VALUE {
-        return at(Mode::InValues, n);
-    }
-    if x == CLOSE_LIST {
-        return at(Mode::Fields, n);
-    }
-    failed()
-}
-
-// The same in a list of objects.
-fn on_objects(x: u32, n: u32) -> State
-    ensures { result ≡ on_objects x n }
-{
-    if x == OPEN_OBJECT {
-        return go_in(1, n);
-    }
-    if x == CLOSE_LIST {
-        return at(Mode::Fields, n);
-    }
-    failed()
-}
-
-// The same at a list's beginning.
-fn on_first(x: u32, n: u32) -> State
-    ensures { result ≡ on_first x n }
-{
-    if x <= LARGEST_VALUE {
-        return at(Mode::InValues, n);
-    }
-    on_objects(x, n)
-}
-
-// The check after one token more.
-fn step(p: State, x: u32) -> State
-    ensures { result ≡ step_of p x }
-{
-    let m = p.mode;
-    let n = p.nest;
-    match m {
-        Mode::Fields => on_fields(x, n),
-        Mode::Labelled => on_content(x, n),
-        Mode::Opened => on_first(x, n),
-        Mode::InValues => on_values(x, n),
-        Mode::InObjects => on_objects(x, n),
-        Mode::Broken => failed(),
+    if nest < 2 {
+        None
+    } else if nest % 2 == 0 {
+        go_on(Mode::Fields, nest / 2)
+    } else {
+        go_on(Mode::InObjects, nest / 2)
     }
 }
 
-// Whether the sequence may end here.
-fn finished(p: State) -> bool
-    ensures { result ≡ finished_at p }
+// Where a field may come next or the fields end.
+fn on_fields(token: u32, nest: u32) -> Option<State>
+    ensures { result ≡ on_fields token nest }
 {
-    let m = p.mode;
-    match m {
-        Mode::Fields => p.nest == 1,
-        Mode::Labelled => false,
-        Mode::Opened => false,
-        Mode::InValues => false,
-        Mode::InObjects => false,
-        Mode::Broken => false,
+    match token {
+        _ if is_label(token) => go_on(Mode::Labelled, nest),
+        CLOSE_OBJECT => go_out(nest),
+        _ => None,
+    }
+}
+
+// Behind a label.
+fn on_content(token: u32, nest: u32) -> Option<State>
+    ensures { result ≡ on_content token nest }
+{
+    match token {
+        0..=LARGEST_VALUE | NULL => go_on(Mode::Fields, nest),
+        OPEN_OBJECT => go_in(false, nest),
+        OPEN_LIST => go_on(Mode::Opened, nest),
+        _ => None,
+    }
+}
+
+// In a list of values.
+fn on_values(token: u32, nest: u32) -> Option<State>
+    ensures { result ≡ on_values token nest }
+{
+    match token {
+        0..=LARGEST_VALUE => go_on(Mode::InValues, nest),
+        CLOSE_LIST => go_on(Mode::Fields, nest),
+        _ => None,
+    }
+}
+
+// In a list of objects.
+fn on_objects(token: u32, nest: u32) -> Option<State>
+    ensures { result ≡ on_objects token nest }
+{
+    match token {
+        OPEN_OBJECT => go_in(true, nest),
+        CLOSE_LIST => go_on(Mode::Fields, nest),
+        _ => None,
+    }
+}
+
+// At a list's beginning.
+fn on_first(token: u32, nest: u32) -> Option<State>
+    ensures { result ≡ on_first token nest }
+{
+    match token {
+        0..=LARGEST_VALUE => go_on(Mode::InValues, nest),
+        _ => on_objects(token, nest),
+    }
+}
+
+impl State {
+    ghost use Rattle.tokens.specs.Check.{step_of, finished_at};
+
+    // A check at its beginning: a field may come, and no object is open.
+    const START: State = State {
+        mode: Mode::Fields,
+        nest: 1,
+    };
+
+    // The check after one token more, or None where the sequence is no response.
+    fn step(self, token: u32) -> Option<State>
+        ensures { result ≡ step_of self token }
+    {
+        let nest = self.nest;
+        match self.mode {
+            Mode::Fields => on_fields(token, nest),
+            Mode::Labelled => on_content(token, nest),
+            Mode::Opened => on_first(token, nest),
+            Mode::InValues => on_values(token, nest),
+            Mode::InObjects => on_objects(token, nest),
+        }
+    }
+
+    // Whether the sequence may end here.
+    fn finished(self) -> bool
+        ensures { result ≡ finished_at self }
+    {
+        self.mode == Mode::Fields && self.nest == 1
     }
 }
 
@@ -192,11 +170,7 @@ pub fn is_response(s: &[u32]) -> bool
     if s.len() > MOST_TOKENS {
         return false;
     }
-    let mut p = at(Mode::Fields, 1);
-    let mut i = 0;
-    while i < s.len() {
-        p = step(p, s[i]);
-        i += 1;
-    }
-    finished(p)
+    s.iter()
+        .try_fold(State::START, |state, token| state.step(*token))
+        .is_some_and(State::finished)
 }

@@ -1,4 +1,5 @@
 -- What the functions read of the areas, shaped like what each of them has to show. Assumes nothing.
+use Rattle.std.specs.Prelude.{Some, None}
 use Prim.Native.Nat.{ℕ, suc, ◌+◌, ◌*◌, ◌-◌, ◌≤◌, ◌<◌}
 use native.Mathlib.Omega.{arith}
 use native.Mathlib.Numerals.{add-one}
@@ -20,12 +21,11 @@ use Rattle.tables.specs.Read.{cell, wide_at, numbers_at, named_at, starts_at, va
 use Rattle.index.specs.Index.{led_to, Linked}
 use Rattle.graph.specs.Held.{PropertiesHeld}
 use Rattle.graph.specs.Faults.{nodes_at, label_is}
-use Rattle.graph.specs.declared.Named.{Named}
+use Rattle.graph.specs.declared.label.Named.{Named}
 use Rattle.graph.proofs.Copying.{same-node}
 use Rattle.query.specs.Entries.{entry_at}
 use Rattle.query.proofs.Cells.{third_at, count_at}
 use Rattle.world.specs.World.{root_at, asked_at, row_from, first_of, lookup_at, shape_by, shape_at, holds_at}
-use Rattle.world.specs.declared.Property.TheVariants.{Row, Nothing}
 use Rattle.world.specs.declared.FieldKind.TheVariants.{Scalar, Objects, Object}
 use Rattle.world.proofs.Targets.{rows-past, rows_hit, rows_miss, rows_none, rows-first, next-rows}
 
@@ -67,16 +67,13 @@ module _ (a : List ℕ) (base n u : ℕ) (l : Label) (j i : ℕ) (left : row_fro
 -- ---- the property
 
 module _ (p : List ℕ) (u : ℕ) (l : Label) (j : ℕ) (is : j ≡ row_from p 8 (cell p 0) u l 0) where
-  pub lookup_row : j < cell p 0 → Row j ≡ lookup_at p u l
+  pub lookup_row : j < cell p 0 → Some j ≡ lookup_at p u l
   unfolding lookup_at first_of
-  lookup_row h = ap Row is ∙ sym (ap first_of (rows-first p 8 (cell p 0) u l 0 (omega (arith, is))))
+  lookup_row h = ap Some is ∙ sym (ap first_of (rows-first p 8 (cell p 0) u l 0 (omega (arith, is))))
 
-  pub lookup_none : cell p 0 ≤ j → Nothing ≡ lookup_at p u l
+  pub lookup_none : cell p 0 ≤ j → None ≡ lookup_at p u l
   unfolding lookup_at first_of
   lookup_none h = sym (ap first_of (rows_none p 8 (cell p 0) u l 0 (omega (arith, is))))
-
-pub sequence_asked : (p : List ℕ) (j w : ℕ) → w ≡ wide_at p 8 j 4 → eqb w 1 ≡ eqb (wide_at p 8 j 4) 1
-sequence_asked p j w e = ap (λ (x : ℕ). eqb x 1) e
 
 -- ---- its values
 
@@ -86,9 +83,6 @@ module _ (p v : List ℕ) (j : ℕ) (held : PropertiesHeld p v) (inside : j < ce
   values_length = let b = held.values j inside in simp (length-take, length-drop) (omega arith)
 
   module _ (m n : ℕ) (em : m ≡ wide_at p 8 j 1) (en : n ≡ wide_at p 8 j 5) where
-    pub values-none : m < 4 + 2 * n → 0 ≡ length (values_at p v j)
-    values-none h = omega (arith, values_length)
-
     pub values-some : m - (4 + 2 * n) ≡ length (values_at p v j)
     values-some = omega (arith, values_length)
 
@@ -165,12 +159,13 @@ module _ (a g : List ℕ) where
       unfolding of_query
       kind = ap₂ (λ (x y : TypeNo). eqb x.0 y.0) eo et
 
-      pub root_found : o.0 ≡ t.0 → u ≡ root_at a g
-      root_found e = sym (root_turn true h (sym kind ∙ eq-eqb o.0 t.0 e))
+      -- b is what the code finds of the two types
+      pub root_found : (b : Bool) → b ≡ eqb o.0 t.0 → b ≡ true → u ≡ root_at a g
+      root_found b is e = sym (root_turn true h (sym kind ∙ sym is ∙ e))
 
-      pub root_on : (o.0 ≡ t.0 → ⊥) → RootFrom a g (u + 1)
+      pub root_on : (b : Bool) → b ≡ eqb o.0 t.0 → b ≡ false → RootFrom a g (u + 1)
       unfolding RootFrom
-      root_on e = rw (add-one u) (root_turn false h (sym kind ∙ ne_eqb o.0 t.0 e))
+      root_on b is e = rw (add-one u) (root_turn false h (sym kind ∙ sym is ∙ e))
 
     pub root_end : cell g 0 ≤ u → cell g 0 ≡ root_at a g
     unfolding RootFrom

@@ -1,4 +1,5 @@
 -- The World that areas hold, asked row by row. Assumes nothing.
+use Rattle.std.specs.Prelude.{Some}
 use Prim.Native.Nat.{ℕ, zero, suc, ◌+◌, ◌-◌, ◌≤◌, ◌<◌}
 use native.Mathlib.Omega.{arith}
 use native.Mathlib.Decide.{dec_lt}
@@ -24,18 +25,14 @@ use Rattle.index.specs.Index.{led_to, node_at, own_from, Linked}
 use Rattle.index.proofs.Firsts.{first_past, first_passes}
 use Rattle.index.proofs.Links.{own_skip}
 use Rattle.index.proofs.Chains.{first-own, next-own}
-use Rattle.graph.specs.Held.{NodesHeld, PropertiesHeld}
+use Rattle.graph.specs.Held.{NodesHeld}
 use Rattle.graph.specs.Faults.{nodes_at}
 use Rattle.world.specs.World.{world_at, EdgesHeld, TableHeld, rows_from, row_from, edge_from, targets_from, first_of, lookup_at, found_by, shape_at, holds_at}
-use Rattle.world.specs.declared.Property.TheVariants.{Row}
 
 -- ---- tables
 
 pub nodes_table : (g : List ℕ) → NodesHeld g → TableHeld g 1544 (cell g 1)
 nodes_table g h = record { long = omega (arith, h.long, h.edges); low = omega arith; few = h.edges; pairs = h.pairs }
-
-pub properties-table : (p v : List ℕ) → PropertiesHeld p v → TableHeld p 8 (cell p 0)
-properties-table p v h = record { long = omega (arith, h.long, h.properties); low = omega arith; few = h.properties; pairs = h.pairs }
 
 -- ---- the numbers from j on that pass a test, and the first of them: n where there is none
 
@@ -205,12 +202,12 @@ module _ (g : List ℕ) (u : ℕ) (l : Label) where
 
 -- ---- the property
 
-first-within : (p : ℕ → Bool) (k i j : ℕ) → first_of (those p (count_up i k)) ≡ Row j → j < i + k
+first-within : (p : ℕ → Bool) (k i j : ℕ) → first_of (those p (count_up i k)) ≡ Some j → j < i + k
 unfolding first_of
 first-within p zero i j h = let z : ◌≡◌ {A = ℕ} 0 1 = cc in absurd (omega arith)
 first-within p (suc k) i j h = go (λ x. first-within p k (suc i) j x) (p i) h
   where
-    go : (first_of (those p (count_up (suc i) k)) ≡ Row j → j < suc i + k) → (b : Bool) → first_of (keep_if b i (those p (count_up (suc i) k))) ≡ Row j
+    go : (first_of (those p (count_up (suc i) k)) ≡ Some j → j < suc i + k) → (b : Bool) → first_of (keep_if b i (those p (count_up (suc i) k))) ≡ Some j
         → j < i + suc k
     go ih true x = let z : i ≡ j = cc in omega arith
     go ih false x = omega (arith, ih x)
@@ -220,7 +217,7 @@ unfolding found_at found_by first_of
 found_first p v [] = refl
 found_first p v (j ∷ js) = refl
 
-pub lookup_within : (p : List ℕ) (u : ℕ) (l : Label) (j : ℕ) → lookup_at p u l ≡ Row j → j < cell p 0
+pub lookup_within : (p : List ℕ) (u : ℕ) (l : Label) (j : ℕ) → lookup_at p u l ≡ Some j → j < cell p 0
 unfolding lookup_at rows_from
 lookup_within p u l j h = omega (arith, first-within (starts_at p 8 u l) (cell p 0 - 0) 0 j h)
 

@@ -1,2 +1,4 @@
 pub mod World
 pub mod ByIndex
+pub mod Told
+pub mod Fact

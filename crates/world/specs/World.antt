@@ -1,5 +1,5 @@
 -- The World that areas hold, and what its functions are asked. Assumes nothing.
-use Rattle.std.specs.Prelude.{ℕ, ◌+◌, ◌*◌, ◌-◌, ◌≤◌, ◌<◌, List, [], ◌∷◌, map, length, get_or, Bool, cond, eqb}
+use Rattle.std.specs.Prelude.{ℕ, ◌+◌, ◌*◌, ◌-◌, ◌≤◌, ◌<◌, List, [], ◌∷◌, map, length, get_or, Bool, cond, eqb, Option, None, Some}
 use Rattle.rules.specs.Lists.{those, count_up}
 use Rattle.rules.specs.Query.{asked}
 use Rattle.rules.specs.Text.{pairs_of}
@@ -16,8 +16,6 @@ use Rattle.schema.specs.Held.{SchemaHeld}
 use Rattle.graph.specs.Held.{NodesHeld, PropertiesHeld}
 use Rattle.graph.specs.Faults.{nodes_at}
 use Rattle.query.specs.Entries.{entry_at}
-use Rattle.world.specs.declared.Property.{Property}
-use Rattle.world.specs.declared.Property.TheVariants.{Row, Nothing}
 use Rattle.world.specs.declared.FieldKind.{FieldKind}
 use Rattle.world.specs.declared.FieldKind.TheVariants.{Scalar, Objects, Object}
 
@@ -90,17 +88,17 @@ targets_from g u l j = map (λ e. wide_at g 1544 e 4) (rows_from g 1544 (cell g 
 
 -- ---- "A property lookup either finds one value row or answers that there is none"
 
-unfoldable pub first_of : List ℕ → Property
-first_of [] = Nothing
-first_of (j ∷ js) = Row j
+unfoldable pub first_of : List ℕ → Option ℕ
+first_of [] = None
+first_of (j ∷ js) = Some j
 
-unfoldable pub lookup_at : List ℕ → ℕ → Label → Property
+unfoldable pub lookup_at : List ℕ → ℕ → Label → Option ℕ
 lookup_at p u l = first_of (rows_from p 8 (cell p 0) u l 0)
 
 -- what a row says: a single value, or a sequence
-unfoldable pub found_by : List ℕ → List ℕ → Property → Found
-found_by p v (Row j) = cond (eqb (wide_at p 8 j 4) 1) (many (values_at p v j)) (one (get_or (values_at p v j) 0 0))
-found_by p v Nothing = nothing
+unfoldable pub found_by : List ℕ → List ℕ → Option ℕ → Found
+found_by p v (Some j) = cond (eqb (wide_at p 8 j 4) 1) (many (values_at p v j)) (one (get_or (values_at p v j) 0 0))
+found_by p v None = nothing
 
 -- ---- what a field is at a node, and whether a node's type is compatible: the nodes suffice
 

@@ -1,7 +1,11 @@
--- `answer::answer_texts` writes no token past the response buffer's end, by what an accepted answer promises. Assumes nothing.
-use Rattle.answer.proofs.Fits.{accepted-fits}
+-- `answer::answer_texts`: an accepted response ends within its buffer, by what the call promises. Assumes nothing.
+use Rattle.answer.proofs.Fits.{accepted-fits, accepted-whole}
 use Rattle.answer.proofs.answer_texts.Goals as goal
 
-pub print_response-requires : goal.print_response-requires
-print_response-requires g c =
+pub slice_bounds-buffer-end : goal.slice_bounds-buffer-end
+slice_bounds-buffer-end g c =
     accepted-fits _ _ _ _ _ _ _ c.answer-outcome.ensures.value c.answer-outcome.ensures.out_after c.if-outcome-ne0.false
+
+pub slice_bounds-response-end : goal.slice_bounds-response-end
+slice_bounds-response-end g c =
+    accepted-whole _ _ _ _ _ _ _ c.answer-outcome.ensures.value c.answer-outcome.ensures.out_after c.if-outcome-ne0.false

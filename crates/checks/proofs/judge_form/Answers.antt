@@ -1,50 +1,44 @@
 -- `checks::judge_form` meets its contract: each return is the first of the two checks that is offended, by the laws of `Opening`.
 -- Assumes nothing.
 use mathlib.Core.Path.{sym, ap, ◌∙◌}
-use borrow.Author.Rules.{rules}
+use Rattle.std.specs.Prelude.{ℕ}
+use Rattle.std.proofs.lemmas.Result.{err_from_is_err_and}
+use Rattle.rules.specs.Search.{spot}
 use Rattle.checks.specs.Verdict.{refused_by}
-use Rattle.checks.proofs.Opening.{opens-few, opens-searched, opens-ready, opens-not_indexed, at_length, at-form, form-plain, at-maxima, past-maxima}
+use Rattle.checks.proofs.Opening.{at_length, Forms, at-form, form-plain, at-maxima, maxima-ready, maxima-not_indexed}
 use Rattle.checks.proofs.judge_form.Goals as goal
+use Rattle.checks.proofs.judge_form.Goals.{After-pass}
+
+-- what is asked of the form comes to what the code passes on
+forms : (c : After-pass) → Forms c.args.kind c.args.s.now c.pass.result
+forms c =
+    record {
+      short = c.if-s-gt65535.false;
+      is = c.pass.ensures ∙ rw (c.first_check-number.ensures.value, c.first_broken.ensures);
+    }
 
 pub returns-then-s-gt65535 : goal.returns-then-s-gt65535
 returns-then-s-gt65535 c =
     c.refuse.ensures
-    ∙ ap (refused_by c.args.n) c.nowhere.ensures
-    ∙ sym (at_length c.args.n c.requires c.args.s.now c.if-s-gt65535.true)
+    ∙ ap (λ (n : ℕ). refused_by n (spot 0 0)) c.first_check-number.ensures.value
+    ∙ sym (at_length c.args.kind c.args.s.now c.if-s-gt65535.true)
 
-pub returns-then-b-gt0 : goal.returns-then-b-gt0
-returns-then-b-gt0 c =
-    c.refuse-then-b-gt0.ensures
-    ∙ sym (at-form c.args.n c.requires c.args.s.now c.if-s-gt65535.false c.first_broken-b.ensures c.if-b-gt0.true)
+pub returns-in_err-pass : goal.returns-in_err-pass
+returns-in_err-pass c =
+    let p = err_from_is_err_and c.from_residual.result c.from_residual.ensures.1 in
+    rw (p.1, p.2) (at-form (forms (goal.at.returns-in_err-pass c).After-pass) c.in_err-pass.was)
 
-pub overflow_add-n : goal.overflow_add-n
-overflow_add-n c = let few = opens-few c.args.n c.requires in search rules
+pub invariant_of-text : goal.invariant_of-text
+invariant_of-text c =
+    let kept = forms (goal.at.invariant_of-text c).After-pass in record { short = kept.short; plain = form-plain kept c.in_ok-pass.was }
 
-pub first_offence-c-requires : goal.first_offence-c-requires
-first_offence-c-requires c =
-    let plain = form-plain c.args.n c.requires c.args.s.now c.if-s-gt65535.false c.first_broken-b.ensures c.if-b-gt0.false in
-    record {
-      searched_for = opens-searched c.args.n c.requires;
-      s_len_bound = c.if-s-gt65535.false;
-      each = plain;
-      ready = opens-ready c.args.n c.requires _ _;
-      index_ready = opens-not_indexed c.args.n c.requires _ _ _;
-    }
+pub first_offence-offence-requires-clause-ready : goal.first_offence-offence-requires-clause-ready
+first_offence-offence-requires-clause-ready c = rw c.maxima.ensures (maxima-ready c.args.kind _ _)
 
-pub overflow_add-n-then-c-gt0 : goal.overflow_add-n-then-c-gt0
-overflow_add-n-then-c-gt0 c = let few = opens-few c.args.n c.requires in search rules
-
-pub returns-then-c-gt0 : goal.returns-then-c-gt0
-returns-then-c-gt0 c =
-    c.refuse-then-c-gt0.ensures
-    ∙ sym
-    (at-maxima c.args.n c.requires c.args.s.now c.if-s-gt65535.false c.first_broken-b.ensures c.if-b-gt0.false
-    _ _ c.first_offence-c.ensures c.if-c-gt0.true)
+pub first_offence-offence-requires-clause-index_ready : goal.first_offence-offence-requires-clause-index_ready
+first_offence-offence-requires-clause-index_ready c = rw c.maxima.ensures (maxima-not_indexed c.args.kind _ _ _)
 
 pub returns : goal.returns
 returns c =
-    c.refuse-2.ensures
-    ∙ ap (refused_by 0) c.nowhere-2.ensures
-    ∙ sym
-    (past-maxima c.args.n c.requires c.args.s.now c.if-s-gt65535.false c.first_broken-b.ensures c.if-b-gt0.false
-    _ _ c.first_offence-c.ensures c.if-c-gt0.false)
+    let said = rw (c.first_check-number.ensures.value, c.first_offence-offence.ensures, c.maxima.ensures) at c.pass-2.ensures in
+    at-maxima (forms (goal.at.returns c).After-pass) c.in_ok-pass.was _ _ said

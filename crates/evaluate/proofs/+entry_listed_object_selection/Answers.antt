@@ -3,7 +3,6 @@ use Prim.Native.Nat.{ℕ}
 use native.Mathlib.Omega.{arith}
 use mathlib.Core.Path.{◌≡◌}
 use mathlib.Core.List.{List, [], ◌∷◌, ◌++◌}
-use borrow.Author.Rules.{rules}
 use Rattle.rules.specs.World.{World}
 use Rattle.rules.specs.Eval.{label, open_list, open_object, close_object}
 use Rattle.tables.specs.Read.{cell, wide_at}
@@ -23,46 +22,40 @@ use Rattle.evaluate.proofs.+entry_listed_object_selection.Goals.{selection-then-
 
 -- ---- selection
 
-pub selection-entry_cell-e-requires-clause-k_bound : goal.selection-entry_cell-e-requires-clause-k_bound
+pub selection-invariant_of-next : goal.selection-invariant_of-next
 unfolding cell
-selection-entry_cell-e-requires-clause-k_bound t c = c.loop-k-test.true
+selection-invariant_of-next t c = record { held = c.args.q.now.held; inside = rw c.len-k-end.ensures at c.loop-k-test.true }
 
 pub selection-returns-then-e-d : goal.selection-returns-then-e-d
 unfolding cell
 selection-returns-then-e-d t c =
-    part_end (selected_up _ _ _ _ _ c.loop-k-test.true c.entry_cell-e.ensures c.if-e-d.true) c.loop-k.invariant.0
+    part_end (selected_up _ _ _ _ _ (rw c.len-k-end.ensures at c.loop-k-test.true) c.cell-e.ensures c.if-e-d.true) c.loop-k.invariant
 
 pub selection-entry-pos-requires : goal.selection-entry-pos-requires
 unfolding cell
 selection-entry-pos-requires t c =
-    let law = selected-here _ _ _ _ _ c.loop-k-test.true c.entry_cell-e.ensures c.if-e-d-2.true in
-    let kept = selected_keeps _ _ c.entry_cell-e.ensures c.loop-k.invariant.1 c.if-e-d-2.true in
-    let room = part_room c.requires.room law c.loop-k.invariant.0 in
-    (omega (arith, c.decreases, kept), (c.requires.world_held, (c.requires.query_labelled, (c.loop-k-test.true, room))))
-
-pub selection-loop-k-smaller : goal.selection-loop-k-smaller
-unfolding cell
-selection-loop-k-smaller t c = search rules
+    let law = selected-here _ _ _ _ _ (rw c.len-k-end.ensures at c.loop-k-test.true) c.cell-e.ensures c.if-e-d-2.true in
+    let kept = selected_keeps _ _ c.cell-e.ensures c.loop-k.auto.k c.if-e-d-2.true in
+    let room = part_room c.requires.room law c.loop-k.invariant in
+    (omega (arith, c.decreases, kept), (c.requires.query_labelled, room))
 
 pub selection-loop-k-preserved : goal.selection-loop-k-preserved
 unfolding cell
 selection-loop-k-preserved t c =
     let room = c.requires.room in
-    let test = c.loop-k-test.true in
-    let depth = c.entry_cell-e.ensures in
-    let i = c.loop-k.invariant in (
-      elim c.if-e-d-2.branch [
-        | selection-then-e-d-2 w ↦ part_at w.out-is w.pos-is
-            (part_step room (selected-here _ _ _ _ _ test depth w.if-e-d-2.true) i.0 w.entry-pos.ensures)
-        | selection-else-e-d-2 w ↦ part_at w.out-is w.pos-is
-            (part_same (selected_skip _ _ _ _ _ test depth (omega (arith, w.if-e-d-2.false, c.if-e-d.false))) i.0)
-      ],
-      omega (arith, i.1),
-    )
+    let test = rw c.len-k-end.ensures at c.loop-k-test.true in
+    let depth = c.cell-e.ensures in
+    let left = c.loop-k.invariant in
+    elim c.if-e-d-2.branch [
+      | selection-then-e-d-2 w ↦ part_at w.out-is w.pos-is
+          (part_step room (selected-here _ _ _ _ _ test depth w.if-e-d-2.true) left w.entry-pos.ensures)
+      | selection-else-e-d-2 w ↦ part_at w.out-is w.pos-is
+          (part_same (selected_skip _ _ _ _ _ test depth (omega (arith, w.if-e-d-2.false, c.if-e-d.false))) left)
+    ]
 
 pub selection-returns : goal.selection-returns
 unfolding cell
-selection-returns t c = part_end (selected_end _ _ _ _ _ c.loop-k-test.false) c.loop-k.invariant.0
+selection-returns t c = part_end (selected_end _ _ _ _ _ (rw c.len-k-end.ensures at c.loop-k-test.false)) c.loop-k.invariant
 
 -- ---- object: a bracket, the children, a bracket
 
@@ -76,21 +69,21 @@ object-put-inside-requires t c = room-one (part_room c.requires.room (braced_ope
 
 pub object-selection-last-requires : goal.object-selection-last-requires
 object-selection-last-requires t c =
-    let depth = c.entry_cell.ensures in
+    let depth = c.cell.ensures in
     let room = part_room c.requires.room (below_then _ _ _ _ depth _) (with-bracket _ _ _ _ c.requires.room c.put-inside.ensures) in
-    let less = children_fall _ _ depth c.requires.query_labelled.held c.requires.k_bound in
-    (omega (arith, c.decreases, less), (c.requires.world_held, (c.requires.query_labelled, room)))
+    let less = children_fall _ _ depth c.requires.query_labelled.held c.args.q.now.inside in
+    (omega (arith, c.decreases, less), (c.requires.query_labelled, room))
 
 pub object-put-requires : goal.object-put-requires
 object-put-requires t c =
     let opened = with-bracket _ _ _ _ c.requires.room c.put-inside.ensures in
-    let filled = part_step c.requires.room (below_then _ _ _ _ c.entry_cell.ensures _) opened c.selection-last.ensures in
+    let filled = part_step c.requires.room (below_then _ _ _ _ c.cell.ensures _) opened c.selection-last.ensures in
     room-one (part_room_last c.requires.room filled)
 
 pub object-returns : goal.object-returns
 object-returns t c =
     let opened = with-bracket _ _ _ _ c.requires.room c.put-inside.ensures in
-    let filled = part_step c.requires.room (below_then _ _ _ _ c.entry_cell.ensures _) opened c.selection-last.ensures in
+    let filled = part_step c.requires.room (below_then _ _ _ _ c.cell.ensures _) opened c.selection-last.ensures in
     part_last c.requires.room filled c.put.ensures
 
 -- ---- listed: a bracket, the objects, a bracket
@@ -107,9 +100,9 @@ module _ (a g p v q : List ℕ) (k u : ℕ) {o o₁ : List ℕ} {at r : ℕ} (ro
 pub listed-put-pos-requires : goal.listed-put-pos-requires
 listed-put-pos-requires t c = room-one (part_room c.requires.room (enlisted_open _ _ _ _ _ _ _) (part_none _ _ _))
 
-pub listed-target-requires-clause-e_bound : goal.listed-target-requires-clause-e_bound
+pub listed-target-requires : goal.listed-target-requires
 unfolding cell
-listed-target-requires-clause-e_bound t c = c.loop-e-test.true
+listed-target-requires t c = c.loop-e-test.true
 
 pub listed-object-pos-requires : goal.listed-object-pos-requires
 unfolding cell
@@ -117,7 +110,7 @@ listed-object-pos-requires t c =
     let i = c.loop-e.invariant.1 in
     let law = objects-more _ _ _ _ _ _ i.0 c.loop-e-test.true c.target.ensures in
     let room = part_room (room-inside _ _ _ _ _ _ _ c.requires.room c.put-pos.ensures) law i.1 in
-    (omega (arith, c.decreases), (c.requires.world_held, (c.requires.query_labelled, (c.requires.k_bound, room))))
+    (omega (arith, c.decreases), (c.requires.query_labelled, room))
 
 pub listed-edge_after-e-requires-clause-e_bound : goal.listed-edge_after-e-requires-clause-e_bound
 unfolding cell
@@ -157,28 +150,28 @@ listed-returns t c =
 
 pub entry-selection-requires : goal.entry-selection-requires
 entry-selection-requires t c =
-    let type = c.entry_cell-then-entry_cell-ne70.ensures in
-    let depth = c.entry_cell-then-holds.ensures in
-    let on = entered_on _ _ _ _ _ _ _ c.entry_cell.ensures type c.if-entry_cell-ne70.true c.holds.ensures c.if-holds.true depth in
-    let less = children_fall _ _ depth c.requires.query_labelled.held c.requires.k_bound in
-    (omega (arith, c.decreases, less), (c.requires.world_held, (c.requires.query_labelled, room-same on c.requires.room)))
+    let type = c.cell-then-cell-ne-FIELD.ensures in
+    let depth = c.cell-then-holds.ensures in
+    let on = entered_on _ _ _ _ _ _ _ c.cell.ensures type c.if-cell-ne-FIELD.true c.holds.ensures c.if-holds.true depth in
+    let less = children_fall _ _ depth c.requires.query_labelled.held c.args.q.now.inside in
+    (omega (arith, c.decreases, less), (c.requires.query_labelled, room-same on c.requires.room))
 
 pub entry-returns-then-holds : goal.entry-returns-then-holds
 entry-returns-then-holds t c =
-    let type = c.entry_cell-then-entry_cell-ne70.ensures in
-    let depth = c.entry_cell-then-holds.ensures in
-    let on = entered_on _ _ _ _ _ _ _ c.entry_cell.ensures type c.if-entry_cell-ne70.true c.holds.ensures c.if-holds.true depth in
+    let type = c.cell-then-cell-ne-FIELD.ensures in
+    let depth = c.cell-then-holds.ensures in
+    let on = entered_on _ _ _ _ _ _ _ c.cell.ensures type c.if-cell-ne-FIELD.true c.holds.ensures c.if-holds.true depth in
     wrote_same on c.selection.ensures
 
-pub entry-returns-then-entry_cell-ne70 : goal.entry-returns-then-entry_cell-ne70
-entry-returns-then-entry_cell-ne70 t c =
-    let type = c.entry_cell-then-entry_cell-ne70.ensures in
-    let off = entered_off _ _ _ _ _ _ _ c.entry_cell.ensures type c.if-entry_cell-ne70.true c.holds.ensures c.if-holds.false in
+pub entry-returns-then-cell-ne-FIELD : goal.entry-returns-then-cell-ne-FIELD
+entry-returns-then-cell-ne-FIELD t c =
+    let type = c.cell-then-cell-ne-FIELD.ensures in
+    let off = entered_off _ _ _ _ _ _ _ c.cell.ensures type c.if-cell-ne-FIELD.true c.holds.ensures c.if-holds.false in
     wrote_same off (wrote_none _ _)
 
 pub entry-put-after-requires : goal.entry-put-after-requires
 entry-put-after-requires t c =
-    let law = entered-label _ _ _ _ _ _ _ c.entry_cell.ensures c.entry_cell-2.ensures c.if-entry_cell-ne70.false in
+    let law = entered-label _ _ _ _ _ _ _ c.cell.ensures c.cell-2.ensures c.if-cell-ne-FIELD.false in
     part_room c.requires.room law (part_none _ _ _)
 
 -- where entry k is a field, its label is written
@@ -198,60 +191,60 @@ module _ (a g p v q : List ℕ) (k u : ℕ) {o o₁ : List ℕ} {at r kind t : �
 
 pub entry-put_scalar-requires-clause-room : goal.entry-put_scalar-requires-clause-room
 entry-put_scalar-requires-clause-room t c =
-    let shape = shaped _ _ _ _ _ _ c.entry_cell-3.ensures c.shape-kind.ensures in
-    room-behind _ _ _ _ _ _ _ c.requires.room c.entry_cell.ensures c.entry_cell-2.ensures c.if-entry_cell-ne70.false c.put-after.ensures
+    let shape = shaped _ _ _ _ _ _ c.cell-3.ensures c.shape.ensures in
+    room-behind _ _ _ _ _ _ _ c.requires.room c.cell.ensures c.cell-2.ensures c.if-cell-ne-FIELD.false c.put-after.ensures
     (fielded_scalar _ _ shape c.in-Scalar.is)
 
 pub entry-returns-in-Scalar : goal.entry-returns-in-Scalar
 entry-returns-in-Scalar t c =
-    let shape = shaped _ _ _ _ _ _ c.entry_cell-3.ensures c.shape-kind.ensures in
-    all-written _ _ _ _ _ _ _ c.requires.room c.entry_cell.ensures c.entry_cell-2.ensures c.if-entry_cell-ne70.false c.put-after.ensures
+    let shape = shaped _ _ _ _ _ _ c.cell-3.ensures c.shape.ensures in
+    all-written _ _ _ _ _ _ _ c.requires.room c.cell.ensures c.cell-2.ensures c.if-cell-ne-FIELD.false c.put-after.ensures
     (fielded_scalar _ _ shape c.in-Scalar.is) c.put_scalar.ensures
 
 pub entry-listed-requires : goal.entry-listed-requires
 entry-listed-requires t c =
-    let shape = shaped _ _ _ _ _ _ c.entry_cell-3.ensures c.shape-kind.ensures in
-    let room = room-behind _ _ _ _ _ _ _ c.requires.room c.entry_cell.ensures c.entry_cell-2.ensures c.if-entry_cell-ne70.false c.put-after.ensures
+    let shape = shaped _ _ _ _ _ _ c.cell-3.ensures c.shape.ensures in
+    let room = room-behind _ _ _ _ _ _ _ c.requires.room c.cell.ensures c.cell-2.ensures c.if-cell-ne-FIELD.false c.put-after.ensures
     (fielded_list _ _ shape c.in-Objects.is) in
-    (omega (arith, c.decreases), (c.requires.world_held, (c.requires.query_labelled, (c.requires.k_bound, room))))
+    (omega (arith, c.decreases), (c.requires.query_labelled, room))
 
 pub entry-returns-in-Objects : goal.entry-returns-in-Objects
 entry-returns-in-Objects t c =
-    let shape = shaped _ _ _ _ _ _ c.entry_cell-3.ensures c.shape-kind.ensures in
-    all-written _ _ _ _ _ _ _ c.requires.room c.entry_cell.ensures c.entry_cell-2.ensures c.if-entry_cell-ne70.false c.put-after.ensures
+    let shape = shaped _ _ _ _ _ _ c.cell-3.ensures c.shape.ensures in
+    all-written _ _ _ _ _ _ _ c.requires.room c.cell.ensures c.cell-2.ensures c.if-cell-ne-FIELD.false c.put-after.ensures
     (fielded_list _ _ shape c.in-Objects.is) c.listed.ensures
 
-pub entry-target-requires-clause-e_bound : goal.entry-target-requires-clause-e_bound
+pub entry-target-requires : goal.entry-target-requires
 unfolding cell
-entry-target-requires-clause-e_bound t c = c.if-e-g.true
+entry-target-requires t c = c.if-e-w.true
 
 pub entry-object-requires : goal.entry-object-requires
 unfolding cell
 entry-object-requires t c =
-    let shape = shaped _ _ _ _ _ _ c.entry_cell-3.ensures c.shape-kind.ensures in
-    let law = fielded-object _ _ shape c.in-Object.is c.first_edge-e.ensures c.if-e-g.true c.target.ensures in
-    let room = room-behind _ _ _ _ _ _ _ c.requires.room c.entry_cell.ensures c.entry_cell-2.ensures c.if-entry_cell-ne70.false
+    let shape = shaped _ _ _ _ _ _ c.cell-3.ensures c.shape.ensures in
+    let law = fielded-object _ _ shape c.in-Object.is c.first_edge-e.ensures c.if-e-w.true c.target.ensures in
+    let room = room-behind _ _ _ _ _ _ _ c.requires.room c.cell.ensures c.cell-2.ensures c.if-cell-ne-FIELD.false
     c.put-after.ensures law in
-    (omega (arith, c.decreases), (c.requires.world_held, (c.requires.query_labelled, (c.requires.k_bound, room))))
+    (omega (arith, c.decreases), (c.requires.query_labelled, room))
 
-pub entry-returns-then-e-g : goal.entry-returns-then-e-g
+pub entry-returns-then-e-w : goal.entry-returns-then-e-w
 unfolding cell
-entry-returns-then-e-g t c =
-    let shape = shaped _ _ _ _ _ _ c.entry_cell-3.ensures c.shape-kind.ensures in
-    let law = fielded-object _ _ shape c.in-Object.is c.first_edge-e.ensures c.if-e-g.true c.target.ensures in
-    all-written _ _ _ _ _ _ _ c.requires.room c.entry_cell.ensures c.entry_cell-2.ensures c.if-entry_cell-ne70.false c.put-after.ensures law
+entry-returns-then-e-w t c =
+    let shape = shaped _ _ _ _ _ _ c.cell-3.ensures c.shape.ensures in
+    let law = fielded-object _ _ shape c.in-Object.is c.first_edge-e.ensures c.if-e-w.true c.target.ensures in
+    all-written _ _ _ _ _ _ _ c.requires.room c.cell.ensures c.cell-2.ensures c.if-cell-ne-FIELD.false c.put-after.ensures law
     c.object.ensures
 
 pub entry-put-requires : goal.entry-put-requires
 unfolding cell
 entry-put-requires t c =
-    let shape = shaped _ _ _ _ _ _ c.entry_cell-3.ensures c.shape-kind.ensures in
-    room-behind _ _ _ _ _ _ _ c.requires.room c.entry_cell.ensures c.entry_cell-2.ensures c.if-entry_cell-ne70.false c.put-after.ensures
-    (fielded-null _ _ shape c.in-Object.is c.first_edge-e.ensures c.if-e-g.false)
+    let shape = shaped _ _ _ _ _ _ c.cell-3.ensures c.shape.ensures in
+    room-behind _ _ _ _ _ _ _ c.requires.room c.cell.ensures c.cell-2.ensures c.if-cell-ne-FIELD.false c.put-after.ensures
+    (fielded-null _ _ shape c.in-Object.is c.first_edge-e.ensures c.if-e-w.false)
 
-pub entry-returns-in-Object : goal.entry-returns-in-Object
+pub entry-returns-else-e-w : goal.entry-returns-else-e-w
 unfolding cell
-entry-returns-in-Object t c =
-    let shape = shaped _ _ _ _ _ _ c.entry_cell-3.ensures c.shape-kind.ensures in
-    all-written _ _ _ _ _ _ _ c.requires.room c.entry_cell.ensures c.entry_cell-2.ensures c.if-entry_cell-ne70.false c.put-after.ensures
-    (fielded-null _ _ shape c.in-Object.is c.first_edge-e.ensures c.if-e-g.false) c.put.ensures
+entry-returns-else-e-w t c =
+    let shape = shaped _ _ _ _ _ _ c.cell-3.ensures c.shape.ensures in
+    all-written _ _ _ _ _ _ _ c.requires.room c.cell.ensures c.cell-2.ensures c.if-cell-ne-FIELD.false c.put-after.ensures
+    (fielded-null _ _ shape c.in-Object.is c.first_edge-e.ensures c.if-e-w.false) c.put.ensures

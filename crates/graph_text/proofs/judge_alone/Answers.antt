@@ -1,67 +1,41 @@
--- `graph_text::judge_alone` meets its contract: each search strikes one check off those that are left. Assumes nothing.
-use mathlib.Core.Path.{◌≡◌, refl, ap, ◌∙◌}
-use mathlib.Core.Bool.{false}
-use mathlib.Core.List.{List}
-use Prim.Native.Nat.{ℕ, ◌≤◌}
-use lib.Dec.{ltb}
-use lib.ListN.{length}
-use Rattle.rules.specs.Text.{rows, lines}
-use Rattle.rules.proofs.Clean.{Each}
-use Rattle.tables.specs.Fill.{Plain}
-use Rattle.search.specs.Search.{areas, GraphReady, SearchedFor, indexed}
-use Rattle.checks.specs.Verdict.{refused_by}
-use Rattle.checks.proofs.Judging.{stop, pass, all-passed, Asked, not-indexed, ask_graph}
+-- `graph_text::judge_alone` meets its contract: each search strikes one check off those that are left; 22 to 24 do not walk the index.
+-- Assumes nothing.
+use mathlib.Core.Path.{refl, sym, ◌∙◌}
+use Rattle.std.proofs.lemmas.Result.{err_from_is_err_and}
+use Rattle.search.specs.Search.{indexed}
+use Rattle.checks.proofs.Judging.{stop, pass, not-indexed}
 use Rattle.graph_text.proofs.GraphJudging.{alone_left}
 use Rattle.graph_text.proofs.judge_alone.Goals as goal
 
--- what each search asks: 22 to 24 do not walk the index
-asked : (n : ℕ) (s a g p v i : List ℕ) → SearchedFor n → ltb n 20 ≡ false → indexed n ≡ false
-    → (length s ≤ 65535) → Each Plain (lines s) → GraphReady (rows s) (areas a g p v) → Asked n s (areas a g p v) g p i
-asked n s a g p v i f h x short plain ready = ask_graph n s _ f h (not-indexed n _ _ _ x) short plain ready
+pub judge_rows-requires-clause-index_ready : goal.judge_rows-requires-clause-index_ready
+unfolding indexed
+judge_rows-requires-clause-index_ready c = not-indexed 22 _ _ _ refl
 
-pub first_offence-b-requires : goal.first_offence-b-requires
-unfolding SearchedFor indexed
-first_offence-b-requires c =
-    let h = asked 22 c.args.s.now c.args.a.now c.args.g.now c.args.p.now c.args.v.now c.args.ix.now
-    refl refl refl c.requires.s_len_bound c.requires.each c.requires.graph_ready in
-    record { searched_for = h.0; s_len_bound = h.1.0; each = h.1.1.0; ready = h.1.1.1.0; index_ready = h.1.1.1.1 }
-
-pub returns-then-b-gt0 : goal.returns-then-b-gt0
-returns-then-b-gt0 c =
+pub returns-in_err-judge_rows : goal.returns-in_err-judge_rows
+returns-in_err-judge_rows c =
+    let p = err_from_is_err_and c.from_residual.result c.from_residual.ensures.1 in
     let left-22 = alone_left _ _ _ _ _ c.requires.graph_ready in
-    stop left-22 c.first_offence-b.ensures c.if-b-gt0.true c.refuse.ensures
+    rw (p.1, p.2) (stop left-22 c.judge_rows.ensures c.in_err-judge_rows.was)
 
-pub first_offence-c-requires : goal.first_offence-c-requires
-unfolding SearchedFor indexed
-first_offence-c-requires c =
-    let h = asked 23 c.args.s.now c.args.a.now c.args.g.now c.args.p.now c.args.v.now c.args.ix.now
-    refl refl refl c.requires.s_len_bound c.requires.each c.requires.graph_ready in
-    record { searched_for = h.0; s_len_bound = h.1.0; each = h.1.1.0; ready = h.1.1.1.0; index_ready = h.1.1.1.1 }
+pub judge_rows-requires-2-clause-index_ready : goal.judge_rows-requires-2-clause-index_ready
+unfolding indexed
+judge_rows-requires-2-clause-index_ready c = not-indexed 23 _ _ _ refl
 
-pub returns-then-c-gt0 : goal.returns-then-c-gt0
-returns-then-c-gt0 c =
+pub returns-in_err-judge_rows-2 : goal.returns-in_err-judge_rows-2
+returns-in_err-judge_rows-2 c =
+    let end = c.from_residual-in_err-judge_rows-2 in
+    let p = err_from_is_err_and end.result end.ensures.1 in
     let left-22 = alone_left _ _ _ _ _ c.requires.graph_ready in
-    let left-23 = pass left-22 c.first_offence-b.ensures c.if-b-gt0.false in
-    stop left-23 c.first_offence-c.ensures c.if-c-gt0.true c.refuse-then-c-gt0.ensures
+    let left-23 = pass left-22 c.judge_rows.ensures c.in_ok-judge_rows.was in
+    rw (p.1, p.2) (stop left-23 c.judge_rows-2.ensures c.in_err-judge_rows-2.was)
 
-pub first_offence-d-requires : goal.first_offence-d-requires
-unfolding SearchedFor indexed
-first_offence-d-requires c =
-    let h = asked 24 c.args.s.now c.args.a.now c.args.g.now c.args.p.now c.args.v.now c.args.ix.now
-    refl refl refl c.requires.s_len_bound c.requires.each c.requires.graph_ready in
-    record { searched_for = h.0; s_len_bound = h.1.0; each = h.1.1.0; ready = h.1.1.1.0; index_ready = h.1.1.1.1 }
-
-pub returns-then-d-gt0 : goal.returns-then-d-gt0
-returns-then-d-gt0 c =
-    let left-22 = alone_left _ _ _ _ _ c.requires.graph_ready in
-    let left-23 = pass left-22 c.first_offence-b.ensures c.if-b-gt0.false in
-    let left-24 = pass left-23 c.first_offence-c.ensures c.if-c-gt0.false in
-    stop left-24 c.first_offence-d.ensures c.if-d-gt0.true c.refuse-then-d-gt0.ensures
+pub judge_rows-requires-3-clause-index_ready : goal.judge_rows-requires-3-clause-index_ready
+unfolding indexed
+judge_rows-requires-3-clause-index_ready c = not-indexed 24 _ _ _ refl
 
 pub returns : goal.returns
 returns c =
     let left-22 = alone_left _ _ _ _ _ c.requires.graph_ready in
-    let left-23 = pass left-22 c.first_offence-b.ensures c.if-b-gt0.false in
-    let left-24 = pass left-23 c.first_offence-c.ensures c.if-c-gt0.false in
-    let none_left = pass left-24 c.first_offence-d.ensures c.if-d-gt0.false in
-    all-passed none_left (c.refuse-2.ensures ∙ ap (refused_by 0) c.nowhere.ensures)
+    let left-23 = pass left-22 c.judge_rows.ensures c.in_ok-judge_rows.was in
+    let left-24 = pass left-23 c.judge_rows-2.ensures c.in_ok-judge_rows-2.was in
+    c.judge_rows-3.ensures ∙ sym left-24.is

@@ -10,7 +10,7 @@ unfolding wide_at
 small c = omega (arith, c.row_cell-node.ensures, c.requires.rowed.nodes.within (c.loop-j.j - 1) (omega arith))
 
 pub loop-j-init : goal.loop-j-init
-loop-j-init c = (keys-start _ _ _ _ c.requires.rowed.nodes c.requires.blank, omega arith)
+loop-j-init c = keys-start _ _ _ _ c.requires.rowed.nodes c.requires.blank
 
 pub row_cell-node-requires : goal.row_cell-node-requires
 row_cell-node-requires c = omega (arith, c.requires.rowed.long)
@@ -21,21 +21,15 @@ overflow_cast-node c = omega (arith, small (goal.at.overflow_cast-node c).After-
 pub link_row-requires : goal.link_row-requires
 link_row-requires c =
     let l = c.loop-j.invariant in
-    record { at_in_bounds = omega (arith, c.requires.blank.long, l.0.same); at_bound = c.requires.blank.low; j_bound = omega (arith, c.requires.rowed.nodes.few); key_bound = small (goal.at.link_row-requires c).After-row_cell-node }
-
-pub loop-j-smaller : goal.loop-j-smaller
-loop-j-smaller c = omega arith
+    record { at_in_bounds = omega (arith, c.requires.blank.long, l.same); at_bound = c.requires.blank.low; j_bound = omega (arith, c.requires.rowed.nodes.few); key_bound = small (goal.at.link_row-requires c).After-row_cell-node }
 
 pub loop-j-preserved : goal.loop-j-preserved
 unfolding wide_at
 loop-j-preserved c =
-    let l = c.loop-j in (
-      keys_on _ _ _ _ c.requires.rowed.nodes c.requires.blank _ _ _ l.invariant.0 (omega arith) _ c.row_cell-node.ensures _ c.link_row.ensures,
-      omega arith,
-    )
+    keys_on _ _ _ _ c.requires.rowed.nodes c.requires.blank _ _ _ c.loop-j.invariant (omega arith) _ c.row_cell-node.ensures _ c.link_row.ensures
 
 pub shape_of-x : goal.shape_of-x
-shape_of-x c = c.loop-j.invariant.0.same
+shape_of-x c = c.loop-j.invariant.same
 
 pub returns : goal.returns
-returns c = links-done _ _ _ _ _ c.loop-j.invariant.0 (omega arith)
+returns c = links-done _ _ _ _ _ c.loop-j.invariant (omega arith)

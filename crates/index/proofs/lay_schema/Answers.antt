@@ -17,7 +17,7 @@ few c table = tables-few _ _ c.requires.links_end_in_bounds c.requires.schema_fi
 
 pub lay_schema-requires : goal.lay_schema-requires
 lay_schema-requires c =
-    record { s_len_bound = c.requires.s_len_bound; each = c.requires.each; schema_fits = c.requires.schema_fits; in_bounds = omega (arith, c.requires.links_end_in_bounds) }
+    record { schema_fits = c.requires.schema_fits; in_bounds = omega (arith, c.requires.links_end_in_bounds) }
 
 pub bounds-a-3 : goal.bounds-a-3
 bounds-a-3 c = omega (arith, long (goal.at.bounds-a-3 c).After-lay_schema)

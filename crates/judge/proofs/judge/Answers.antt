@@ -2,7 +2,6 @@
 use mathlib.Core.Path.{◌≡◌, sym, ap, ◌∙◌}
 use lib.ListN.{length, take}
 use lib.Seq.{length-take-le}
-use Rattle.checks.specs.Verdict.{refused_by}
 use Rattle.judge.specs.Texts.{lent}
 use Rattle.judge.proofs.Texts.{too_short_lem, Long, long-areas, widened}
 use Rattle.judge.proofs.judge.Goals as goal
@@ -19,7 +18,7 @@ values-needed c = length-take-le 8200 c.args.v.now (long c).values
 pub returns-then-short : goal.returns-then-short
 returns-then-short c =
     too_short_lem c.args.schema.now c.args.graph.now c.args.query.now _ _ _
-    (sym c.short.ensures ∙ c.if-short.true) (c.refuse.ensures ∙ ap (refused_by 2) c.nowhere.ensures)
+    (sym c.short.ensures ∙ c.if-short.true) c.refuse.ensures
 
 pub slice_bounds-judge_texts-end : goal.slice_bounds-judge_texts-end
 unfolding lent

@@ -5,6 +5,7 @@ use mathlib.Core.Bool.{false}
 use mathlib.Core.List.{List}
 use mathlib.Core.Path.{◌≡◌, refl}
 use lib.ListN.{length}
+use Rattle.std.proofs.lemmas.Result.{err_from_is_err_and}
 use Rattle.masks.specs.Masks.{schema_needed}
 use Rattle.judge.specs.Texts.{lent, too_short_of}
 use Rattle.judge.proofs.Texts.{enough, schema-refused, held-schema, graph-refused, all-accepted}
@@ -25,33 +26,38 @@ long a g p v x q a-long g-long p-long v-long x-long q-long =
       query = q-long;
     })
 
-pub returns-then-b-ne0 : goal.returns-then-b-ne0
-returns-then-b-ne0 c =
+pub returns-in_err-judge_schema : goal.returns-in_err-judge_schema
+returns-in_err-judge_schema c =
+    let p = err_from_is_err_and c.from_residual.result c.from_residual.ensures.1 in
     let r = c.requires in
     let room = long _ _ _ _ _ _ r.schema_needed_in_bounds r.in_bounds r.in_bounds_2 r.v_len r.in_bounds_3 r.in_bounds_4 in
-    schema-refused c.args.schema.now c.args.graph.now c.args.query.now _ room c.judge_schema-b.ensures c.if-b-ne0.true
+    rw (p.1, p.2)
+    (schema-refused c.args.schema.now c.args.graph.now c.args.query.now _ room c.judge_schema.ensures c.in_err-judge_schema.was)
 
 -- the schema's area can be read, with its masks
-pub judge_graph-c-requires-clause-schema_held : goal.judge_graph-c-requires-clause-schema_held
-judge_graph-c-requires-clause-schema_held c =
+pub judge_graph-requires-clause-schema_held : goal.judge_graph-requires-clause-schema_held
+judge_graph-requires-clause-schema_held c =
     let r = c.requires in
     let room = long _ _ _ _ _ _ r.schema_needed_in_bounds r.in_bounds r.in_bounds_2 r.v_len r.in_bounds_3 r.in_bounds_4 in
     held-schema c.args.schema.now c.args.graph.now c.args.query.now _ room
-    c.judge_schema-b.ensures r.schema_needed_in_bounds c.if-b-ne0.false
+    c.judge_schema.ensures r.schema_needed_in_bounds c.in_ok-judge_schema.was
 
-pub returns-then-c-ne0 : goal.returns-then-c-ne0
-returns-then-c-ne0 c =
+pub returns-in_err-judge_graph : goal.returns-in_err-judge_graph
+returns-in_err-judge_graph c =
+    let end = c.from_residual-in_err-judge_graph in
+    let p = err_from_is_err_and end.result end.ensures.1 in
     let r = c.requires in
     let room = long _ _ _ _ _ _ r.schema_needed_in_bounds r.in_bounds r.in_bounds_2 r.v_len r.in_bounds_3 r.in_bounds_4 in
-    graph-refused c.args.schema.now c.args.graph.now c.args.query.now _ room
-    c.judge_schema-b.ensures r.schema_needed_in_bounds c.if-b-ne0.false c.judge_graph-c.ensures c.if-c-ne0.true
+    rw (p.1, p.2)
+    (graph-refused c.args.schema.now c.args.graph.now c.args.query.now _ room
+    c.judge_schema.ensures r.schema_needed_in_bounds c.in_ok-judge_schema.was c.judge_graph.ensures c.in_err-judge_graph.was)
 
 pub judge_query-requires-clause-schema_held : goal.judge_query-requires-clause-schema_held
 judge_query-requires-clause-schema_held c =
     let r = c.requires in
     let room = long _ _ _ _ _ _ r.schema_needed_in_bounds r.in_bounds r.in_bounds_2 r.v_len r.in_bounds_3 r.in_bounds_4 in
     let held = held-schema c.args.schema.now c.args.graph.now c.args.query.now _ room
-    c.judge_schema-b.ensures r.schema_needed_in_bounds c.if-b-ne0.false in
+    c.judge_schema.ensures r.schema_needed_in_bounds c.in_ok-judge_schema.was in
     held.0
 
 pub returns : goal.returns
@@ -60,5 +66,5 @@ returns c =
     let r = c.requires in
     let room = long _ _ _ _ _ _ r.schema_needed_in_bounds r.in_bounds r.in_bounds_2 r.v_len r.in_bounds_3 r.in_bounds_4 in
     all-accepted c.args.schema.now c.args.graph.now c.args.query.now _ room
-    c.judge_schema-b.ensures r.schema_needed_in_bounds c.if-b-ne0.false c.judge_graph-c.ensures c.if-c-ne0.false
+    c.judge_schema.ensures r.schema_needed_in_bounds c.in_ok-judge_schema.was c.judge_graph.ensures c.in_ok-judge_graph.was
     c.judge_query.ensures refl refl refl r.v_len refl refl

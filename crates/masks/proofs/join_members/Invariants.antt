@@ -1,12 +1,7 @@
--- `masks::join_members` meets its contract. The loop's invariant: the `M` records before its place have joined. The measure is those left.
--- Assumes nothing.
-use Prim.Native.Nat.{◌-◌, ◌≤◌}
+-- `masks::join_members` meets its contract. The loop's invariant: the `M` records before its place have joined. Assumes nothing.
 use mathlib.Core.Path.{◌≡◌}
 use Rattle.masks.specs.Join.{members_joined}
 use Rattle.masks.proofs.join_members.Given as goal
 
 abbrev pub invariant-loop-j : goal.invariant-loop-j
-invariant-loop-j l = (l.a ≡ members_joined l.initial.a l.j) × (l.j ≤ l.members)
-
-abbrev pub decreases-loop-j : goal.decreases-loop-j
-decreases-loop-j l = l.members - l.j
+invariant-loop-j l = l.a ≡ members_joined l.initial.a l.j

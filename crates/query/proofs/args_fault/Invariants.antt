@@ -1,6 +1,5 @@
--- `query::args_fault` meets its contract. The loop's invariant: the arguments before the i-th pass. The measure is the arguments left.
--- Assumes nothing.
-use Prim.Native.Nat.{◌≤◌, ◌-◌}
+-- `query::args_fault` meets its contract. The loop's invariant: the arguments before the i-th pass. Assumes nothing.
+use Prim.Native.Nat.{◌≤◌}
 use mathlib.Core.Path.{◌≡◌}
 use Rattle.tables.specs.Read.{wide_at, schema_at}
 use Rattle.query.specs.Faults.{arg_passes, args_fault}
@@ -8,7 +7,4 @@ use Rattle.query.proofs.Arguments.{args_from}
 use Rattle.query.proofs.args_fault.Given as goal
 
 abbrev pub invariant-loop-i : goal.invariant-loop-i
-invariant-loop-i l = (args_fault l.check l.a l.q l.k l.f ≡ args_from (arg_passes l.check (schema_at l.a) l.f) l.q l.k l.i) × (l.i ≤ l.n) × (l.n ≡ wide_at l.q 8 l.k 5) × (l.n ≤ 4)
-
-abbrev pub decreases-loop-i : goal.decreases-loop-i
-decreases-loop-i l = l.n - l.i
+invariant-loop-i l = (args_fault l.check l.a.area.now l.q.area.now l.q.place l.f ≡ args_from (arg_passes l.check (schema_at l.a.area.now) l.f) l.q.area.now l.q.place l.i) × (l.i ≤ wide_at l.q.area.now 8 l.q.place 5)

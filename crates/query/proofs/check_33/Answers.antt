@@ -6,14 +6,14 @@ use Rattle.query.proofs.check_33.Goals as goal
 pub returns-then-is_declared : goal.returns-then-is_declared
 returns-then-is_declared c = search (laws33, rules)
 
-pub returns-then-l-eq84 : goal.returns-then-l-eq84
-returns-then-l-eq84 c = search (laws33, rules)
+pub returns-then-l-eq-CONDITION : goal.returns-then-l-eq-CONDITION
+returns-then-l-eq-CONDITION c = search (laws33, rules)
 
-pub returns-then-l-ne70 : goal.returns-then-l-ne70
-returns-then-l-ne70 c = search (laws33, rules)
+pub returns-then-l-ne-FIELD : goal.returns-then-l-ne-FIELD
+returns-then-l-ne-FIELD c = search (laws33, rules)
 
-pub returns-then-entry_cell-gt255 : goal.returns-then-entry_cell-gt255
-returns-then-entry_cell-gt255 c = search (laws33, rules)
+pub returns-then-cell-gt255 : goal.returns-then-cell-gt255
+returns-then-cell-gt255 c = search (laws33, rules)
 
 pub returns-then-not-declared_field : goal.returns-then-not-declared_field
 returns-then-not-declared_field c = search (laws33, rules)

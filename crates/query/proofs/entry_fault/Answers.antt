@@ -1,13 +1,12 @@
 -- `query::entry_fault` meets its contract. One law for each check. Assumes nothing.
-use borrow.Author.Rules.{rules}
 use Rattle.query.proofs.Verdicts.{number-laws}
 use Rattle.query.proofs.entry_fault.Goals as goal
 
-pub returns-then-check-eq32 : goal.returns-then-check-eq32
-returns-then-check-eq32 c = search (number-laws, rules)
+pub returns-in-Depths : goal.returns-in-Depths
+returns-in-Depths c = search number-laws
 
-pub returns-then-check-eq33 : goal.returns-then-check-eq33
-returns-then-check-eq33 c = search (number-laws, rules)
+pub returns-in-Numbers : goal.returns-in-Numbers
+returns-in-Numbers c = search number-laws
 
-pub returns : goal.returns
-returns c = search (number-laws, rules)
+pub returns-in-Validity : goal.returns-in-Validity
+returns-in-Validity c = search number-laws

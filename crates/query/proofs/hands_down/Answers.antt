@@ -3,8 +3,8 @@ use borrow.Author.Rules.{rules}
 use Rattle.query.proofs.Children.{hand-laws}
 use Rattle.query.proofs.hands_down.Goals as goal
 
-pub returns-then-entry_cell-eq70 : goal.returns-then-entry_cell-eq70
-returns-then-entry_cell-eq70 c = search (hand-laws, rules)
+pub returns-then-cell-eq-FIELD : goal.returns-then-cell-eq-FIELD
+returns-then-cell-eq-FIELD c = search (hand-laws, rules)
 
 pub returns : goal.returns
 returns c = search (hand-laws, rules)

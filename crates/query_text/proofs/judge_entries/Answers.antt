@@ -1,43 +1,41 @@
 -- `query_text::judge_entries` meets its contract: each search strikes one check off those that are left. Assumes nothing.
-use mathlib.Core.Path.{ap, ◌∙◌}
-use Rattle.tables.specs.Read.{cell, schema_at}
+use mathlib.Core.Path.{◌≡◌, sym, ap, ◌∙◌}
+use borrow.Author.Tests.{eq-eqb, eqb-true}
+use Rattle.std.specs.Prelude.{ℕ}
+use Rattle.std.proofs.lemmas.Result.{err_from_is_err_and}
+use Rattle.rules.specs.Search.{spot}
+use Rattle.rules.proofs.Bools.{clash}
+use Rattle.tables.specs.Read.{cell}
+use Rattle.schema.specs.Stated.{stated}
 use Rattle.checks.specs.Verdict.{refused_by}
-use Rattle.checks.proofs.Judging.{stop, pass, all-passed}
-use Rattle.query_text.proofs.QueryJudging.{no_entry, all_left}
+use Rattle.query.specs.declared.EntryCheck.TheVariants.{Depths, Numbers, Validity}
+use Rattle.query_text.proofs.QueryJudging.{no_entry, all_left, stop_at, strike, decides}
 use Rattle.query_text.proofs.judge_entries.Goals as goal
+use Rattle.query_text.proofs.judge_entries.Goals.{Else-is_empty}
 
-pub returns-then-q-eq0 : goal.returns-then-q-eq0
-unfolding cell
-returns-then-q-eq0 c =
-    no_entry (schema_at c.args.a.now) c.args.q.now c.if-q-eq0.true
-    (c.refuse.ensures ∙ ap (refused_by 32) c.nowhere.ensures)
+-- past the test there is an entry
+some-entry : (c : Else-is_empty) → cell c.args.q.now.area.now 0 ≡ 0 → ⊥
+some-entry c e = clash (eq-eqb _ _ e) (sym c.is_empty.ensures ∙ c.if-is_empty.false)
 
-pub returns-then-d-gt0 : goal.returns-then-d-gt0
-unfolding cell
-returns-then-d-gt0 c =
-    let left-32 = all_left (schema_at c.args.a.now) c.args.q.now c.if-q-eq0.false in
-    stop left-32 c.first_entry-d.ensures c.if-d-gt0.true c.refuse-then-d-gt0.ensures
+pub returns-then-is_empty : goal.returns-then-is_empty
+returns-then-is_empty c =
+    no_entry (stated c.args.a.now) c.args.q.now.area.now (eqb-true _ _ (sym c.is_empty.ensures ∙ c.if-is_empty.true))
+    (c.refuse.ensures ∙ ap (λ (n : ℕ). refused_by n (spot 0 0)) c.number.ensures)
 
-pub returns-then-e-gt0 : goal.returns-then-e-gt0
-unfolding cell
-returns-then-e-gt0 c =
-    let left-32 = all_left (schema_at c.args.a.now) c.args.q.now c.if-q-eq0.false in
-    let left-33 = pass left-32 c.first_entry-d.ensures c.if-d-gt0.false in
-    stop left-33 c.first_entry-e.ensures c.if-e-gt0.true c.refuse-then-e-gt0.ensures
+pub returns-in_err-judge_entry : goal.returns-in_err-judge_entry
+returns-in_err-judge_entry c =
+    let p = err_from_is_err_and c.from_residual.result c.from_residual.ensures.1 in
+    rw (p.1, p.2) (stop_at _ _ Depths (all_left _ _ (some-entry (goal.at.returns-in_err-judge_entry c).Else-is_empty)) c.judge_entry.ensures c.in_err-judge_entry.was)
 
-pub returns-then-f-gt0 : goal.returns-then-f-gt0
-unfolding cell
-returns-then-f-gt0 c =
-    let left-32 = all_left (schema_at c.args.a.now) c.args.q.now c.if-q-eq0.false in
-    let left-33 = pass left-32 c.first_entry-d.ensures c.if-d-gt0.false in
-    let left-34 = pass left-33 c.first_entry-e.ensures c.if-e-gt0.false in
-    stop left-34 c.first_entry-f.ensures c.if-f-gt0.true c.refuse-then-f-gt0.ensures
+pub returns-in_err-judge_entry-2 : goal.returns-in_err-judge_entry-2
+returns-in_err-judge_entry-2 c =
+    let end = c.from_residual-in_err-judge_entry-2 in
+    let p = err_from_is_err_and end.result end.ensures.1 in
+    let left-33 = strike _ _ Depths (all_left _ _ (some-entry (goal.at.returns-in_err-judge_entry-2 c).Else-is_empty)) c.judge_entry.ensures c.in_ok-judge_entry.was in
+    rw (p.1, p.2) (stop_at _ _ Numbers left-33 c.judge_entry-2.ensures c.in_err-judge_entry-2.was)
 
 pub returns : goal.returns
-unfolding cell
 returns c =
-    let left-32 = all_left (schema_at c.args.a.now) c.args.q.now c.if-q-eq0.false in
-    let left-33 = pass left-32 c.first_entry-d.ensures c.if-d-gt0.false in
-    let left-34 = pass left-33 c.first_entry-e.ensures c.if-e-gt0.false in
-    let none_left = pass left-34 c.first_entry-f.ensures c.if-f-gt0.false in
-    all-passed none_left (c.refuse-2.ensures ∙ ap (refused_by 0) c.nowhere-2.ensures)
+    let left-33 = strike _ _ Depths (all_left _ _ (some-entry (goal.at.returns c).Else-is_empty)) c.judge_entry.ensures c.in_ok-judge_entry.was in
+    let left-34 = strike _ _ Numbers left-33 c.judge_entry-2.ensures c.in_ok-judge_entry-2.was in
+    decides _ _ Validity left-34 c.judge_entry-3.ensures

@@ -13,21 +13,15 @@ pub returns-then-o-ne0 : goal.returns-then-o-ne0
 returns-then-o-ne0 c =
     responded_refused _ _ _ _ _ c.measure-s.ensures _ _ c.if-room-gt16384.false _ c.limit-o.ensures c.if-o-ne0.true
 
-pub query_node-root-requires : goal.query_node-root-requires
+pub slice_bounds-values-end : goal.slice_bounds-values-end
 unfolding lent
-query_node-root-requires c =
-    let y = still_readable _ _ _ _ _ c.measure-s.ensures _ _ c.if-room-gt16384.false _ c.limit-o.ensures c.if-o-ne0.false in
-    record { schema_held = y.held.graph.schema; nodes_held = y.held.graph.edges.nodes }
-
-pub slice_bounds-selection-end : goal.slice_bounds-selection-end
-unfolding lent
-slice_bounds-selection-end c =
+slice_bounds-values-end c =
     let long = still_long _ _ _ _ _ c.measure-s.ensures _ _ c.if-room-gt16384.false _ c.limit-o.ensures c.if-o-ne0.false in
     omega (arith, long.values, c.measure-s.auto.v)
 
-pub slice_bounds-selection-end-2 : goal.slice_bounds-selection-end-2
+pub slice_bounds-values-end-2 : goal.slice_bounds-values-end-2
 unfolding lent
-slice_bounds-selection-end-2 c =
+slice_bounds-values-end-2 c =
     let long = still_long _ _ _ _ _ c.measure-s.ensures _ _ c.if-room-gt16384.false _ c.limit-o.ensures c.if-o-ne0.false in
     let v = c.measure-s.new.v in
     simp (length-take-le 8200 v (omega (arith, long.values, c.measure-s.auto.v)))
@@ -41,7 +35,7 @@ selection-requires c =
     let room =
     has_room _ _ left _ _ c.measure-s.ensures _ _ c.if-room-gt16384.false _ c.limit-o.ensures c.if-o-ne0.false _
     c.query_node-root.ensures in
-    record { world_held = y.held; query_labelled = y.labelled; room = room }
+    record { query_labelled = y.labelled; room = room }
 
 pub returns : goal.returns
 unfolding lent
@@ -50,3 +44,13 @@ returns c =
     responded_written _ _ _ _ _ c.measure-s.ensures _ _ c.if-room-gt16384.false _ c.limit-o.ensures c.if-o-ne0.false _
     c.query_node-root.ensures in
     wrote _ _ c.selection.ensures
+
+pub invariant_of-world : goal.invariant_of-world
+unfolding lent
+invariant_of-world c =
+    let y = still_readable _ _ _ _ _ c.measure-s.ensures _ _ c.if-room-gt16384.false _ c.limit-o.ensures c.if-o-ne0.false in record { held = y.held }
+
+pub invariant_of-selection : goal.invariant_of-selection
+unfolding lent
+invariant_of-selection c =
+    let y = still_readable _ _ _ _ _ c.measure-s.ensures _ _ c.if-room-gt16384.false _ c.limit-o.ensures c.if-o-ne0.false in record { held = y.labelled.held }

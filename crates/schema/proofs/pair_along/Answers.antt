@@ -5,28 +5,15 @@ use Rattle.schema.proofs.Searching.{pair_found, pair_ended}
 use Rattle.schema.proofs.Following.{Seeking, seek_less, seek_on, seek_bucket, pair-first}
 use Rattle.schema.proofs.pair_along.Goals as goal
 
-pub first_row-j-requires : goal.first_row-j-requires
-first_row-j-requires c = let k = c.requires.chained in
-    record { at_in_bounds = k.long; at_bound = k.low }
-
 pub loop-j-init : goal.loop-j-init
 unfolding head_in
 loop-j-init c =
     subst (Seeking _ _ _) (sym c.first_row-j.ensures)
     (seek_bucket _ _ _ _ _ c.requires.chained _ (λ k h. pair-first _ _ _ _ k h))
 
-pub pair_at-requires : goal.pair_at-requires
-pair_at-requires c =
-    record { j_in_bounds = omega (arith, c.requires.n_in_bounds); base_bound = c.requires.base_bound; j_bound = omega (arith, c.requires.chained.keyed.few) }
-
 pub returns-then-pair_at : goal.returns-then-pair_at
 returns-then-pair_at c =
     pair_found _ _ _ _ _ _ _ c.loop-j.invariant.left c.loop-j-test.true c.pair_at.ensures c.if-pair_at.true
-
-pub next_row-j-requires : goal.next_row-j-requires
-next_row-j-requires c =
-    let k = c.requires.chained in
-    record { at_in_bounds = k.long; at_bound = k.low; j_bound = omega (arith, k.keyed.few, c.loop-j-test.true) }
 
 pub loop-j-smaller : goal.loop-j-smaller
 unfolding next_in

@@ -1,51 +1,76 @@
--- `search::clashes` meets its contract. One law for each check and letter; the earlier line, the two being clashable, stands in the
--- areas. Assumes nothing.
-use borrow.Author.Rules.{rules}
-use Rattle.search.proofs.Dispatch.{clash-laws, has_asked, takes-asked, members_asked, diverts-asked}
-use Rattle.search.proofs.Dispatch.{edge-asked, property-asked}
+-- `search::clashes` meets its contract, by the check and the letter; the earlier line, the two being clashable, stands in the areas.
+-- Assumes nothing.
+use native.Mathlib.Omega.{arith}
+use borrow.Author.Tests.{ne_eqb}
+use mathlib.Core.Logic.{inl, inr}
+use mathlib.Core.Path.{◌≡◌, ap}
+use Rattle.rules.specs.Text.{E}
+use Rattle.search.specs.Search.{areas, row_number, clash}
+use Rattle.search.proofs.Numbers.{other_number}
 use Rattle.search.proofs.clashes.Goals as goal
 
 pub pair_at-requires-clause-j_in_bounds : goal.pair_at-requires-clause-j_in_bounds
+unfolding areas
 pair_at-requires-clause-j_in_bounds c =
-    (has_asked _ _ _ _ _ _ _ c.requires c.if-check-eq13.true c.if-r-eq72.true).0
+    omega (arith, c.pair_base.ensures.value, (c.requires.pair (ap row_number c.in-PairTwice.is)).0)
 
-pub returns-then-r-eq72 : goal.returns-then-r-eq72
-returns-then-r-eq72 c = search (clash-laws, rules)
+pub pair_at-requires-clause-j_bound : goal.pair_at-requires-clause-j_bound
+pair_at-requires-clause-j_bound c = omega (arith, (c.requires.pair (ap row_number c.in-PairTwice.is)).1)
 
-pub pair_at-requires-then-r-eq71-clause-j_in_bounds : goal.pair_at-requires-then-r-eq71-clause-j_in_bounds
-pair_at-requires-then-r-eq71-clause-j_in_bounds c =
-    (takes-asked _ _ _ _ _ _ _ c.requires c.if-check-eq13.true c.if-r-eq72.false c.if-r-eq71.true).0
-
-pub returns-then-r-eq71 : goal.returns-then-r-eq71
-returns-then-r-eq71 c = search (clash-laws, rules)
-
-pub pair_at-requires-then-check-eq13-clause-j_in_bounds : goal.pair_at-requires-then-check-eq13-clause-j_in_bounds
-pair_at-requires-then-check-eq13-clause-j_in_bounds c =
-    (members_asked _ _ _ _ _ _ _ c.requires c.if-check-eq13.true c.if-r-eq72.false c.if-r-eq71.false).0
-
-pub returns-then-check-eq13 : goal.returns-then-check-eq13
-returns-then-check-eq13 c = search (clash-laws, rules)
+pub invariant_of-diverts_at : goal.invariant_of-diverts_at
+unfolding areas
+invariant_of-diverts_at c = record { held = (c.requires.edge (λ e. omega (arith, e, ap row_number c.in-SecondTarget.is))).0 }
 
 pub diverts_at-requires : goal.diverts_at-requires
+unfolding areas
 diverts_at-requires c =
-    let h = diverts-asked _ _ _ _ _ _ _ c.requires c.if-check-eq13.false c.if-check-eq25.true in
-    record { nodes_held = h.0; j_bound = h.1.0; nums_len = h.1.1 }
+    let is25 = ap row_number c.in-SecondTarget.is in
+    let not13 : row_number c.args.check ≡ 13 → ⊥ = λ e. omega (arith, is25) in
+    record { j_bound = c.requires.inside not13 (inl is25) }
 
-pub returns-then-check-eq25 : goal.returns-then-check-eq25
-returns-then-check-eq25 c = search (clash-laws, rules)
+pub invariant_of-twin_edge : goal.invariant_of-twin_edge
+unfolding areas
+invariant_of-twin_edge c = record { held = (c.requires.edge (other_number c.in_default.not-PairTwice)).0 }
+
+pub invariant_of-twin_edge-in-69 : goal.invariant_of-twin_edge-in-69
+invariant_of-twin_edge-in-69 c = record { few = (c.requires.edge (other_number c.in_default.not-PairTwice)).2 }
 
 pub twin_edge-requires : goal.twin_edge-requires
+unfolding areas
 twin_edge-requires c =
-    let h = edge-asked _ _ _ _ _ _ _ c.requires c.if-check-eq13.false c.if-r-eq69.true in
-    record { nodes_held = h.0; j_bound = h.1.0; nums_bound = h.1.1.0; nums_len = h.1.1.1 }
+    let not13 = other_number c.in_default.not-PairTwice in
+    record { j_bound = c.requires.inside not13 (inr c.in-69.is) }
 
-pub returns-then-r-eq69 : goal.returns-then-r-eq69
-returns-then-r-eq69 c = search (clash-laws, rules)
+pub invariant_of-property : goal.invariant_of-property
+unfolding areas
+invariant_of-property c =
+    let not13 = other_number c.in_default.not-PairTwice in
+    let not25 = other_number c.in_default.not-SecondTarget in
+    record { held = (c.requires.edge not13).1; inside = c.requires.within not13 not25 (λ e. omega (arith, e)) }
 
-pub twin_property-requires : goal.twin_property-requires
-twin_property-requires c =
-    let h = property-asked _ _ _ _ _ _ _ c.requires c.if-check-eq13.false c.if-check-eq25.false c.if-r-eq69.false in
-    record { properties_held = h.0; j_bound = h.1.0; nums_bound = h.1.1.0; nums_len = h.1.1.1 }
+pub invariant_of-twin_property : goal.invariant_of-twin_property
+invariant_of-twin_property c = record { few = (c.requires.edge (other_number c.in_default.not-PairTwice)).2 }
 
-pub returns : goal.returns
-returns c = search (clash-laws, rules)
+pub returns-in-PairTwice : goal.returns-in-PairTwice
+unfolding clash areas
+returns-in-PairTwice c = rw (c.in-PairTwice.is, ← c.pair_base.ensures.value) c.pair_at.ensures
+
+pub returns-in-SecondTarget : goal.returns-in-SecondTarget
+unfolding clash areas
+returns-in-SecondTarget c = rw c.in-SecondTarget.is c.diverts_at.ensures
+
+pub returns-in-69 : goal.returns-in-69
+unfolding clash areas
+returns-in-69 c =
+    rw (ne_eqb _ 13 (other_number c.in_default.not-PairTwice), ne_eqb _ 25 (other_number c.in_default.not-SecondTarget), c.in-69.is)
+    c.twin_edge.ensures
+
+pub returns-in_default-letter : goal.returns-in_default-letter
+unfolding clash areas
+returns-in_default-letter c =
+    rw (
+      ne_eqb _ 13 (other_number c.in_default.not-PairTwice),
+      ne_eqb _ 25 (other_number c.in_default.not-SecondTarget),
+      ne_eqb c.args.r.letter E (λ e. omega (arith, e)),
+    )
+    c.twin_property.ensures

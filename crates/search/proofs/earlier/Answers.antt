@@ -1,47 +1,53 @@
--- `search::earlier` meets its contract. One law for each check and letter. Assumes nothing.
-use borrow.Author.Rules.{rules}
-use mathlib.Core.Path.{refl}
-use Rattle.search.specs.Search.{plain_check}
-use Rattle.search.proofs.Dispatch.{limit-laws, schema-asked, nodes_asked}
+-- `search::earlier` meets its contract, by the check and the letter. Assumes nothing.
+use native.Mathlib.Omega.{arith}
+use borrow.Author.Tests.{ne_eqb}
+use Rattle.rules.specs.Text.{E, P}
+use Rattle.search.specs.Search.{areas, plain_check, limit}
+use Rattle.search.proofs.Numbers.{other_number}
 use Rattle.search.proofs.earlier.Goals as goal
+use Rattle.search.proofs.earlier.Goals.{then-r-ne69-via-then-r-ne69, then-r-ne69-via-else-r-ne69+then-is_list}
 
-pub returns-then-r-eq72 : goal.returns-then-r-eq72
-returns-then-r-eq72 c = search (limit-laws, rules)
+pub is_list-requires : goal.is_list-requires
+unfolding areas plain_check
+is_list-requires c =
+    record {
+      schema_held = c.requires.schema (rw c.in-SecondTarget.is);
+      nodes_held = (c.requires.graph (rw c.in-SecondTarget.is) (rw c.in-SecondTarget.is)).nodes;
+    }
 
-pub returns-then-r-eq71 : goal.returns-then-r-eq71
-returns-then-r-eq71 c = search (limit-laws, rules)
+pub returns-in-PairTwice : goal.returns-in-PairTwice
+unfolding limit
+returns-in-PairTwice c = rw c.in-PairTwice.is c.earlier_pairs.ensures
 
-pub returns-then-r-eq77 : goal.returns-then-r-eq77
-returns-then-r-eq77 c = search (limit-laws, rules)
+pub returns-then-r-ne69 : goal.returns-then-r-ne69
+unfolding limit areas
+returns-then-r-ne69 c =
+    elim c.then-r-ne69.branch [
+      | then-r-ne69-via-then-r-ne69 w ↦ rw (c.in-SecondTarget.is, ne_eqb c.args.r.letter E w.if-r-ne69.true)
+      | then-r-ne69-via-else-r-ne69+then-is_list w ↦ rw (c.in-SecondTarget.is, w.if-r-ne69.false, ← w.is_list.ensures, w.if-is_list.true)
+    ]
 
-pub returns-then-check-eq13 : goal.returns-then-check-eq13
-returns-then-check-eq13 c = search (limit-laws, rules)
+pub returns-else-is_list : goal.returns-else-is_list
+unfolding limit areas
+returns-else-is_list c = rw (c.in-SecondTarget.is, c.if-r-ne69.false, ← c.is_list.ensures, c.if-is_list.false)
 
-pub type_of-requires : goal.type_of-requires
-type_of-requires c = nodes_asked _ _ _ _ _ _ _ c.requires.testable c.if-check-eq25.true
+pub returns-in-69 : goal.returns-in-69
+unfolding limit
+returns-in-69 c = rw (c.in-Twin.is, c.in-69.is)
 
-pub list_mark-requires : goal.list_mark-requires
-unfolding plain_check
-list_mark-requires c =
-    schema-asked _ _ _ _ _ _ _ c.requires.testable 25 refl c.if-check-eq25.true
+pub returns-in-80 : goal.returns-in-80
+unfolding limit
+returns-in-80 c = rw (c.in-Twin.is, c.in-80.is)
 
-pub returns-then-list_mark-eq1 : goal.returns-then-list_mark-eq1
-returns-then-list_mark-eq1 c = search (limit-laws, rules)
+pub returns-in_default-letter : goal.returns-in_default-letter
+unfolding limit
+returns-in_default-letter c = rw (c.in-Twin.is, ne_eqb c.args.r.letter E (λ e. omega (arith, e)), ne_eqb c.args.r.letter P (λ e. omega (arith, e)))
 
-pub returns-then-r-eq69 : goal.returns-then-r-eq69
-returns-then-r-eq69 c = search (limit-laws, rules)
-
-pub returns-then-check-eq25 : goal.returns-then-check-eq25
-returns-then-check-eq25 c = search (limit-laws, rules)
-
-pub returns-then-r-eq69-2 : goal.returns-then-r-eq69-2
-returns-then-r-eq69-2 c = search (limit-laws, rules)
-
-pub returns-then-r-eq80 : goal.returns-then-r-eq80
-returns-then-r-eq80 c = search (limit-laws, rules)
-
-pub returns-else-r-eq80 : goal.returns-else-r-eq80
-returns-else-r-eq80 c = search (limit-laws, rules)
-
-pub returns-else-check-eq26 : goal.returns-else-check-eq26
-returns-else-check-eq26 c = search (limit-laws, rules)
+pub returns-in_default : goal.returns-in_default
+unfolding limit
+returns-in_default c =
+    rw (
+      ne_eqb _ 13 (other_number c.in_default.not-PairTwice),
+      ne_eqb _ 25 (other_number c.in_default.not-SecondTarget),
+      ne_eqb _ 26 (other_number c.in_default.not-Twin),
+    )

@@ -1,24 +1,21 @@
--- `search::first_datum` meets its contract: a check that walks the index may ask it. Assumes nothing.
-use mathlib.Core.Path.{◌∙◌}
+-- `search::first_datum` meets its contract: along the chain of the line's node, by the letter, or all in turn. Assumes nothing.
+use native.Mathlib.Omega.{arith}
+use borrow.Author.Tests.{ne_eqb}
+use Rattle.rules.specs.Text.{E}
 use Rattle.tables.specs.Read.{cell}
 use Rattle.index.specs.Index.{head_in}
-use Rattle.search.proofs.Dispatch.{head-edges, head-properties, head_first}
+use Rattle.search.specs.Search.{head_of}
 use Rattle.search.proofs.first_datum.Goals as goal
 
-pub returns-then-r-eq69 : goal.returns-then-r-eq69
-unfolding cell head_in
-returns-then-r-eq69 c =
-    c.first_row.ensures
-    ∙ head-edges _ c.args.g.now c.args.p.now c.args.ix.now c.args.r _ c.by_index.ensures
-    c.if-by_index.true c.if-r-eq69.true
+pub returns-then-not-by_index : goal.returns-then-not-by_index
+unfolding head_of
+returns-then-not-by_index c = rw (← c.by_index.ensures, c.if-not-by_index.true)
 
-pub returns-then-by_index : goal.returns-then-by_index
-unfolding cell head_in
-returns-then-by_index c =
-    c.first_row-then-by_index.ensures
-    ∙ head-properties _ c.args.g.now c.args.p.now c.args.ix.now c.args.r _ c.by_index.ensures
-    c.if-by_index.true c.if-r-eq69.false
+pub returns-in-69 : goal.returns-in-69
+unfolding cell head_in head_of
+returns-in-69 c = rw (← c.by_index.ensures, c.if-not-by_index.false, c.in-69.is) c.first_row.ensures
 
-pub returns : goal.returns
-returns c =
-    head_first _ c.args.g.now c.args.p.now c.args.ix.now c.args.r _ c.by_index.ensures c.if-by_index.false
+pub returns-in_default : goal.returns-in_default
+unfolding cell head_in head_of
+returns-in_default c =
+    rw (← c.by_index.ensures, c.if-not-by_index.false, ne_eqb c.args.r.letter E (λ e. omega (arith, e))) c.first_row-in_default.ensures

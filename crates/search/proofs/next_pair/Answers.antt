@@ -1,18 +1,21 @@
 -- `search::next_pair` meets its contract: the chain by the letter. Assumes nothing.
-use mathlib.Core.Path.{◌∙◌}
+use native.Mathlib.Omega.{arith}
+use borrow.Author.Tests.{ne_eqb}
+use Rattle.rules.specs.Text.{G, H}
 use Rattle.tables.specs.Read.{cell}
 use Rattle.index.specs.Index.{next_in}
-use Rattle.search.proofs.Dispatch.{next_has, next-takes, next_member}
+use Rattle.search.specs.Search.{pair_next, pair_rows, pair_links}
 use Rattle.search.proofs.next_pair.Goals as goal
 
-pub returns-then-letter-eq72 : goal.returns-then-letter-eq72
-unfolding cell next_in
-returns-then-letter-eq72 c = c.next_row.ensures ∙ next_has _ _ _ c.if-letter-eq72.true
+pub returns-in-72 : goal.returns-in-72
+unfolding cell next_in pair_next pair_rows pair_links
+returns-in-72 c = rw c.in-72.is c.next_row.ensures
 
-pub returns-then-letter-eq71 : goal.returns-then-letter-eq71
-unfolding cell next_in
-returns-then-letter-eq71 c = c.next_row-then-letter-eq71.ensures ∙ next-takes _ _ c.if-letter-eq72.false _ c.if-letter-eq71.true
+pub returns-in-71 : goal.returns-in-71
+unfolding cell next_in pair_next pair_rows pair_links
+returns-in-71 c = rw c.in-71.is c.next_row-in-71.ensures
 
-pub returns : goal.returns
-unfolding cell next_in
-returns c = c.next_row-2.ensures ∙ next_member _ _ c.if-letter-eq72.false _ c.if-letter-eq71.false
+pub returns-in_default : goal.returns-in_default
+unfolding cell next_in pair_next pair_rows pair_links
+returns-in_default c =
+    rw (ne_eqb c.args.letter H (λ e. omega (arith, e)), ne_eqb c.args.letter G (λ e. omega (arith, e))) c.next_row-in_default.ensures

@@ -6,7 +6,7 @@ use Rattle.sizing.proofs.Tallying.{Counted}
 use Rattle.sizing.proofs.count_targets.Given as goal
 
 abbrev pub invariant-loop-e : goal.invariant-loop-e
-invariant-loop-e l = Counted l.g l.u (asked_at l.q l.k) l.n l.e
+invariant-loop-e l = Counted l.w.nodes.now l.u (asked_at l.q.area.now l.q.place) l.n l.e
 
 abbrev pub decreases-loop-e : goal.decreases-loop-e
-decreases-loop-e l = cell l.g 1 - l.e
+decreases-loop-e l = cell l.w.nodes.now 1 - l.e

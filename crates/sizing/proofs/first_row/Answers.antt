@@ -7,10 +7,6 @@ use Rattle.sizing.proofs.Rows.{first-laid}
 use borrow.Author.Rules.{rules}
 use Rattle.sizing.proofs.first_row.Goals as goal
 
-pub overflow_cast-g : goal.overflow_cast-g
-unfolding cell
-overflow_cast-g c = search rules
-
 pub zero_row-requires : goal.zero_row-requires
 unfolding cell
 zero_row-requires c = search rules
@@ -18,7 +14,7 @@ zero_row-requires c = search rules
 pub returns : goal.returns
 unfolding cell
 returns c =
-    let a = c.args.a.now in
-    let g = c.args.g.now in
+    let a = c.args.w.now.schema.now in
+    let g = c.args.w.now.nodes.now in
     let z = c.zero_row.ensures in
     first-laid (world_at a g [] []) _ _ _ c.args.m.now _ (world-size a g [] []) c.requires.g_bound c.requires.g_in_bounds z c.query_node.ensures

@@ -15,12 +15,8 @@ unfolding cell
 same c = zeroed-length _ _ c.args.m.now _ c.zero_row.ensures c.requires.g_in_bounds
 
 room : (c : At-loop-u)
-    → c.args.b + cell c.args.g.now 0 ≤ length c.zero_row.new.m
+    → c.args.b + cell c.args.w.now.nodes.now 0 ≤ length c.zero_row.new.m
 room c = omega (arith, same c, c.requires.g_in_bounds)
-
-pub overflow_cast-n : goal.overflow_cast-n
-unfolding cell
-overflow_cast-n c = search rules
 
 pub zero_row-requires : goal.zero_row-requires
 unfolding cell
@@ -31,37 +27,13 @@ unfolding cell
 loop-u-init c =
     passing-none _ _ _ _ c.args.m.now _ c.requires.g_bound c.requires.g_in_bounds c.zero_row.ensures
 
-pub overflow_cast-u : goal.overflow_cast-u
-unfolding cell
-overflow_cast-u c = search rules
-
-pub overflow_add-c : goal.overflow_add-c
-unfolding cell
-overflow_add-c c = search rules
-
 pub number_at-x-requires : goal.number_at-x-requires
 unfolding cell
 number_at-x-requires c = search rules
 
-pub pass_on-requires : goal.pass_on-requires
+pub pass_on-requires-clause-u_bound : goal.pass_on-requires-clause-u_bound
 unfolding cell
-pass_on-requires c =
-    let t = c.loop-u-test.true in
-    record {
-      graph_held = c.requires.graph_held;
-      query_held = c.requires.query_held;
-      k_bound = c.requires.k_bound;
-      u_bound = t;
-      g_in_bounds = omega (arith, c.loop-u.invariant.same, room (goal.at.pass_on-requires c).At-loop-u);
-    }
-
-pub overflow_add-u : goal.overflow_add-u
-unfolding cell
-overflow_add-u c = search rules
-
-pub loop-u-smaller : goal.loop-u-smaller
-unfolding cell
-loop-u-smaller c = search rules
+pass_on-requires-clause-u_bound c = c.loop-u-test.true
 
 pub loop-u-preserved : goal.loop-u-preserved
 unfolding cell
@@ -69,15 +41,12 @@ loop-u-preserved c =
     let t = c.loop-u-test.true in
     let x = c.number_at-x.ensures in
     let low = c.requires.g_bound in
-    let nodes = next_nodes _ _ _ _ _ c.requires.graph_held.edges t in
+    let nodes = next_nodes _ _ _ _ _ c.args.w.now.held.graph.edges t in
     let wide = room (goal.at.loop-u-preserved c).At-loop-u in
     elim c.if-x-gt0.branch [
       | then-x-gt0 w ↦ passing-on _ _ _ _ _ low wide _ _ c.loop-u.invariant t _ x _ nodes (w.m-is ∙ w.pass_on.ensures)
       | else-x-gt0 w ↦ passing-by _ _ _ _ _ low wide _ _ c.loop-u.invariant t _ x _ w.if-x-gt0.false w.m-is
     ]
-
-pub shape_of-m : goal.shape_of-m
-shape_of-m c = c.loop-u.invariant.same ∙ same (goal.at.shape_of-m c).At-loop-u
 
 pub returns : goal.returns
 unfolding cell

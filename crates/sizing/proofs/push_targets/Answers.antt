@@ -4,7 +4,6 @@ use Rattle.tables.specs.Read.{cell}
 use Rattle.world.proofs.Targets.{edges-fewer, edge-node}
 use Rattle.sizing.proofs.Passing.{adding_start, adding_on, adding_end}
 use native.Mathlib.Omega.{arith}
-use borrow.Author.Rules.{rules}
 use Rattle.sizing.proofs.push_targets.Goals as goal
 use Rattle.sizing.proofs.push_targets.Goals.{After-target}
 
@@ -12,37 +11,26 @@ use Rattle.sizing.proofs.push_targets.Goals.{After-target}
 room : (c : After-target) → c.args.b + c.target.result < length c.loop-e.m
 unfolding cell
 room c =
-    let t = c.requires.edges_held.ends _ c.loop-e-test.true in
+    let t = c.args.w.now.held.graph.edges.ends _ c.loop-e-test.true in
     omega (arith, t, c.target.ensures, c.loop-e.invariant.same, c.requires)
-
-pub overflow_cast-n : goal.overflow_cast-n
-unfolding cell
-overflow_cast-n c = search rules
 
 pub loop-e-init : goal.loop-e-init
 loop-e-init c = adding_start _ _ _ _ _ _ _ c.first_edge-e.ensures
 
 pub target-requires : goal.target-requires
 unfolding cell
-target-requires c = search rules
-
-pub overflow_add-b : goal.overflow_add-b
-overflow_add-b c = omega (arith, room (goal.at.overflow_add-b c).After-target)
+target-requires c = c.loop-e-test.true
 
 pub add_at-requires : goal.add_at-requires
 add_at-requires c = room (goal.at.add_at-requires c).After-target
 
-pub edge_after-e-requires : goal.edge_after-e-requires
+pub edge_after-e-requires-clause-e_bound : goal.edge_after-e-requires-clause-e_bound
 unfolding cell
-edge_after-e-requires c =
-    let t = c.loop-e-test.true in
-    record {
-      edges_held = c.requires.edges_held;
-      query_held = c.requires.query_held;
-      k_bound = c.requires.k_bound;
-      e_bound = t;
-      e_value = edge-node _ _ _ _ _ c.loop-e.invariant.edge t;
-    }
+edge_after-e-requires-clause-e_bound c = c.loop-e-test.true
+
+pub edge_after-e-requires-clause-e_value : goal.edge_after-e-requires-clause-e_value
+unfolding cell
+edge_after-e-requires-clause-e_value c = edge-node _ _ _ _ _ c.loop-e.invariant.edge c.loop-e-test.true
 
 pub loop-e-smaller : goal.loop-e-smaller
 unfolding cell
@@ -55,9 +43,6 @@ loop-e-preserved c =
     let t = c.target.ensures in
     let s = c.add_at.ensures in
     adding_on _ _ _ _ _ _ _ _ c.loop-e.invariant _ _ _ c.loop-e-test.true t s c.edge_after-e.ensures
-
-pub shape_of-m : goal.shape_of-m
-shape_of-m c = c.loop-e.invariant.same
 
 pub returns : goal.returns
 unfolding cell

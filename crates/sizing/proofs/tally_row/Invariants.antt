@@ -1,5 +1,5 @@
 -- `sizing::tally_row` meets its contract. The loop's invariant: the visits from node u on are left to tally. Assumes nothing.
-use Prim.Native.Nat.{◌+◌, ◌-◌, ◌≤◌}
+use Prim.Native.Nat.{◌+◌, ◌≤◌}
 use mathlib.Core.Path.{◌≡◌}
 use Rattle.tables.specs.Read.{cell}
 use Rattle.world.specs.World.{world_at}
@@ -8,10 +8,9 @@ use Rattle.sizing.proofs.Tallying.{tallied_from}
 use Rattle.sizing.proofs.tally_row.Given as goal
 
 abbrev pub invariant-loop-u : goal.invariant-loop-u
-invariant-loop-u l =
-    (tallied_from (world_at l.a l.g l.p l.v) l.q l.k (row_in l.m l.c (cell l.g 0)) l.r l.u
-    ≡ tallied_from (world_at l.a l.g l.p l.v) l.q l.k (row_in l.m l.c (cell l.g 0)) l.initial.r 0)
-    × ((l.r.visits ≤ l.initial.r.visits + l.u) × (l.u ≤ cell l.g 0))
-
-abbrev pub decreases-loop-u : goal.decreases-loop-u
-decreases-loop-u l = cell l.g 0 - l.u
+invariant-loop-u l = record {
+  left :
+      tallied_from (world_at l.w.schema.now l.w.nodes.now l.w.properties.now l.w.values.now) l.q.area.now l.q.place (row_in l.m l.c (cell l.w.nodes.now 0)) l.r l.u
+      ≡ tallied_from (world_at l.w.schema.now l.w.nodes.now l.w.properties.now l.w.values.now) l.q.area.now l.q.place (row_in l.m l.c (cell l.w.nodes.now 0)) l.initial.r 0;
+  few : l.r.visits ≤ l.initial.r.visits + l.u;
+}

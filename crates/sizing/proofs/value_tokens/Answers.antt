@@ -3,43 +3,29 @@ use Prim.Native.Nat.{ℕ, ◌+◌, ◌≤◌, ◌<◌}
 use mathlib.Core.Path.{sym, ap, ◌∙◌}
 use Rattle.tables.specs.Read.{cell}
 use native.Mathlib.Omega.{arith}
-use Rattle.world.proofs.Targets.{lookup_within, properties-table}
+use Rattle.world.proofs.Targets.{lookup_within}
 use Rattle.sizing.proofs.Tallying.{values-few, value_none, value-many, value-one}
 use Rattle.sizing.proofs.value_tokens.Goals as goal
-use Rattle.sizing.proofs.value_tokens.Goals.{In-Row, After-value_count}
+use Rattle.sizing.proofs.value_tokens.Goals.{In-Some, After-value_count}
 
 -- the row that was found
-within : (c : In-Row) → c.in-Row.j < cell c.args.p.now 0
-within c = lookup_within _ _ _ _ (sym c.lookup.ensures ∙ c.in-Row.is)
+within : (c : In-Some) → c.in-Some.j < cell c.args.w.now.properties.now 0
+within c = lookup_within _ _ _ _ (sym c.lookup.ensures ∙ c.in-Some.is)
 
 -- they are few
 few : (c : After-value_count) → c.value_count.result ≤ 8200
 few c =
-    let at_most = values-few c.args.p.now c.args.v.now c.in-Row.j in
-    omega (arith, c.value_count.ensures, c.requires.v_len_bound)
-
-pub lookup-requires : goal.lookup-requires
-lookup-requires c =
-    record {
-      table_held = properties-table _ _ c.requires.properties_held;
-      linked = c.requires.linked;
-      query_held = c.requires.query_held;
-      k_bound = c.requires.k_bound;
-    }
+    let at_most = values-few c.args.w.now.properties.now c.args.w.now.values.now c.in-Some.j in
+    omega (arith, c.value_count.ensures, c.args.w.now.held.values)
 
 pub returns-in_default : goal.returns-in_default
 returns-in_default c = value_none _ _ _ _ _ c.lookup.ensures c.in_default.is
 
-pub is_sequence-requires : goal.is_sequence-requires
-is_sequence-requires c =
-    record {
-      table_held = properties-table _ _ c.requires.properties_held;
-      j_bound = within (goal.at.is_sequence-requires c).In-Row;
-    }
+pub is_sequence-requires-clause-j_bound : goal.is_sequence-requires-clause-j_bound
+is_sequence-requires-clause-j_bound c = within (goal.at.is_sequence-requires-clause-j_bound c).In-Some
 
 pub value_count-requires : goal.value_count-requires
-value_count-requires c =
-    record { properties_held = c.requires.properties_held; j_bound = within (goal.at.value_count-requires c).In-Row }
+value_count-requires c = within (goal.at.value_count-requires c).In-Some
 
 pub overflow_cast-result : goal.overflow_cast-result
 overflow_cast-result c = omega (arith, few (goal.at.overflow_cast-result c).After-value_count)
@@ -51,9 +37,9 @@ pub returns-then-is_sequence : goal.returns-then-is_sequence
 returns-then-is_sequence c =
     let found = c.lookup.ensures in
     let many = sym c.is_sequence.ensures ∙ c.if-is_sequence.true in
-    ap (λ (n : ℕ). 3 + n) c.value_count.ensures ∙ value-many _ _ _ _ _ found _ c.in-Row.is many
+    ap (λ (n : ℕ). 3 + n) c.value_count.ensures ∙ value-many _ _ _ _ _ found _ c.in-Some.is many
 
 pub returns : goal.returns
 returns c =
     let found = c.lookup.ensures in
-    value-one _ _ _ _ _ found _ c.in-Row.is (sym c.is_sequence.ensures ∙ c.if-is_sequence.false)
+    value-one _ _ _ _ _ found _ c.in-Some.is (sym c.is_sequence.ensures ∙ c.if-is_sequence.false)

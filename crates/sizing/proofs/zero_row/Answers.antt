@@ -1,18 +1,9 @@
-use mathlib.Core.Path.{refl, sym}
-use lib.ListN.{length-set}
-use Rattle.tables.proofs.Laid.{laid_nil}
-use Rattle.sizing.proofs.Rows.{zeroed-on, zeroed-all}
+-- `sizing::zero_row` meets its contract: the row is a part of the area, which is filled. Assumes nothing.
 use native.Mathlib.Omega.{arith}
+use lib.ListN.{length-take, length-drop}
+use Rattle.sizing.proofs.Rows.{part_zeroed}
 use Rattle.sizing.proofs.zero_row.Goals as goal
 
-pub loop-i-init : goal.loop-i-init
-loop-i-init c = (sym (laid_nil _ _), omega arith, refl)
-
-pub loop-i-preserved : goal.loop-i-preserved
-loop-i-preserved c = (zeroed-on _ _ _ _ c.loop-i.invariant.0 (omega arith), omega arith, simp length-set (omega arith))
-
-pub shape_of-m : goal.shape_of-m
-shape_of-m c = c.loop-i.invariant.2
-
 pub returns : goal.returns
-returns c = zeroed-all _ c.loop-i.i c.args.n _ _ c.loop-i.invariant.0 (omega arith) (omega arith)
+returns c =
+    part_zeroed c.args.b _ _ c.args.n _ _ (omega arith) (simp (length-take, length-drop) (omega arith)) (c.fill.ensures.after (λ y e. e))

@@ -11,19 +11,19 @@ use Rattle.tables.proofs.Valuing.{valued-room, valued-all}
 use Rattle.tables.proofs.fill_graph.Goals as goal
 use Rattle.tables.proofs.fill_graph.Goals.{After-read_row-r, At-loop-at}
 
-turned : (c : After-read_row-r) → Turn c.args.s.now c.loop-at.at c.read_row-r.result
+turned : (c : After-read_row-r) → Turn c.args.s.now.bytes.now c.loop-at.at c.read_row-r.result
 turned c = turn _ _ _ c.loop-at.invariant.values_left.plain c.loop-at-test.true c.read_row-r.ensures
 
 few : (c : After-read_row-r) → c.read_row-r.result.count < 100000
-few c = omega (arith, turned-few (turned c), (turned c).inside, c.requires.s_len_bound)
+few c = omega (arith, turned-few (turned c), (turned c).inside, c.args.s.now.short)
 
 -- the counts at the end
-fits : (c : At-loop-at) → GraphFits (rows c.args.s.now)
+fits : (c : At-loop-at) → GraphFits (rows c.args.s.now.bytes.now)
 fits c = c.requires.graph_fits
 
 pub loop-at-init : goal.loop-at-init
 loop-at-init c =
-    graph-start c.requires.each c.requires.graph_fits c.requires.in_bounds c.requires.in_bounds_2 c.requires.in_bounds_3
+    graph-start c.args.s.now.plain c.requires.graph_fits c.requires.in_bounds c.requires.in_bounds_2 c.requires.in_bounds_3
 
 pub overflow_sub-start : goal.overflow_sub-start
 overflow_sub-start c = c.loop-at.invariant.values_left.after
@@ -31,7 +31,7 @@ overflow_sub-start c = c.loop-at.invariant.values_left.after
 pub overflow_cast-start : goal.overflow_cast-start
 overflow_cast-start c =
     let f = c.loop-at.invariant.values_left in
-    omega (arith, f.under, f.inside, c.requires.s_len_bound)
+    omega (arith, f.under, f.inside, c.args.s.now.short)
 
 pub put_in-nodes-requires : goal.put_in-nodes-requires
 put_in-nodes-requires c =
@@ -85,7 +85,7 @@ overflow_sub-result-4 c = c.loop-at.invariant.values_left.after
 pub overflow_cast-result-4 : goal.overflow_cast-result-4
 overflow_cast-result-4 c =
     let f = c.loop-at.invariant.values_left in
-    omega (arith, f.under, f.inside, c.requires.s_len_bound)
+    omega (arith, f.under, f.inside, c.args.s.now.short)
 
 pub shape_of-g : goal.shape_of-g
 shape_of-g c = c.loop-at.invariant.nodes_left.same

@@ -10,11 +10,11 @@ use Rattle.tables.proofs.SchemaLaying.{schema-start, schema-on, SchemaEnds, sche
 use Rattle.tables.proofs.fill_schema.Goals as goal
 use Rattle.tables.proofs.fill_schema.Goals.{After-read_row-r, After-put_in-types, After-put_in-fields, After-put_in-args, After-put_in-has, After-put_in-takes, After-loop-at}
 
-turned : (c : After-read_row-r) → Turn c.args.s.now c.loop-at.at c.read_row-r.result
+turned : (c : After-read_row-r) → Turn c.args.s.now.bytes.now c.loop-at.at c.read_row-r.result
 turned c = turn _ _ _ c.loop-at.invariant.asked.plain c.loop-at-test.true c.read_row-r.ensures
 
 few : (c : After-read_row-r) → c.read_row-r.result.count < 100000
-few c = omega (arith, turned-few (turned c), (turned c).inside, c.requires.s_len_bound)
+few c = omega (arith, turned-few (turned c), (turned c).inside, c.args.s.now.short)
 
 long-1 : (c : After-put_in-types) → length c.put_in-types.new.area ≡ length c.loop-at.area
 long-1 c = c.put_in-types.auto.area
@@ -33,15 +33,15 @@ long-5 c = c.put_in-takes.auto.area ∙ c.put_in-has.auto.area ∙ c.put_in-args
 
 -- the places at the end, and how many rows there are at most
 ends : (c : After-loop-at) → let l = c.loop-at in
-    SchemaEnds (rows c.args.s.now) l.types l.fields l.args l.has l.takes l.members
+    SchemaEnds (rows c.args.s.now.bytes.now) l.types l.fields l.args l.has l.takes l.members
 ends c = schema-ends c.loop-at.invariant c.loop-at-test.false
 
-fits : (c : After-loop-at) → SchemaFits (rows c.args.s.now)
+fits : (c : After-loop-at) → SchemaFits (rows c.args.s.now.bytes.now)
 fits c = c.requires.schema_fits
 
 pub loop-at-init : goal.loop-at-init
 loop-at-init c =
-    schema-start c.requires.each c.requires.schema_fits c.requires.in_bounds
+    schema-start c.args.s.now.plain c.requires.schema_fits c.requires.in_bounds
 
 pub put_in-types-requires : goal.put_in-types-requires
 put_in-types-requires c =
@@ -70,7 +70,7 @@ put_in-members-requires c =
 pub ask-queries-requires : goal.ask-queries-requires
 ask-queries-requires c =
     let f = c.loop-at.invariant.asked in
-    omega (arith, f.few, f.inside, c.requires.s_len_bound)
+    omega (arith, f.few, f.inside, c.args.s.now.short)
 
 pub loop-at-smaller : goal.loop-at-smaller
 loop-at-smaller c = let t = turned (goal.at.loop-at-smaller c).After-read_row-r in omega arith

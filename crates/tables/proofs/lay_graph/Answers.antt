@@ -24,7 +24,7 @@ value-long c =
 
 pub fill_graph-c-requires : goal.fill_graph-c-requires
 fill_graph-c-requires c =
-    record { s_len_bound = c.requires.s_len_bound; each = c.requires.each; graph_fits = c.requires.graph_fits; in_bounds = omega (arith, c.requires.in_bounds, c.clear.auto.area); in_bounds_2 = omega (arith, c.requires.in_bounds_2, c.clear-2.auto.area); in_bounds_3 = omega (arith, c.requires.in_bounds_3, c.clear-3.auto.area) }
+    record { graph_fits = c.requires.graph_fits; in_bounds = omega (arith, c.requires.in_bounds, c.clear.auto.area); in_bounds_2 = omega (arith, c.requires.in_bounds_2, c.clear-2.auto.area); in_bounds_3 = omega (arith, c.requires.in_bounds_3, c.clear-3.auto.area) }
 
 pub bounds-g-1 : goal.bounds-g-1
 bounds-g-1 c = simp length-set (omega (arith, node-long (goal.at.bounds-g-1 c).After-fill_graph-c))

@@ -7,7 +7,7 @@ use Rattle.tables.proofs.lay_query.Goals as goal
 
 pub fill_query-entries-requires : goal.fill_query-entries-requires
 fill_query-entries-requires c =
-    record { s_len_bound = c.requires.s_len_bound; each = c.requires.each; s_len_bound_2 = c.requires.s_len_bound_2; in_bounds = omega (arith, c.requires.in_bounds, c.clear.auto.area) }
+    record { s_len_bound_2 = c.requires.s_len_bound_2; in_bounds = omega (arith, c.requires.in_bounds, c.clear.auto.area) }
 
 pub shape_of-area : goal.shape_of-area
 shape_of-area c =

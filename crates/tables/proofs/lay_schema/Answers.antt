@@ -5,7 +5,7 @@ use Rattle.tables.proofs.lay_schema.Goals as goal
 
 pub fill_schema-c-requires : goal.fill_schema-c-requires
 fill_schema-c-requires c =
-    record { s_len_bound = c.requires.s_len_bound; each = c.requires.each; schema_fits = c.requires.schema_fits; in_bounds = omega (arith, c.requires.in_bounds, c.clear.auto.area) }
+    record { schema_fits = c.requires.schema_fits; in_bounds = omega (arith, c.requires.in_bounds, c.clear.auto.area) }
 
 pub returns : goal.returns
 returns c =

@@ -1,23 +1,11 @@
-use mathlib.Core.Path.{sym, ap, ◌∙◌}
-use Rattle.tokens.specs.Check.{accepts}
-use Rattle.tokens.proofs.Checked.{too_long, tells, accepts-more, accepts_end}
-use borrow.Author.Rules.{rules}
+-- `tokens::is_response` meets its contract: what the run over the tokens and its end say. Assumes nothing.
+use Rattle.std.proofs.Common.{rules, tests, sym, ◌∙◌}
+use Rattle.std.proofs.lemmas.Iterator.{YieldsList-from_slice}
+use Rattle.tokens.proofs.Checked.{tells, ends, accepts-try_fold}
 use Rattle.tokens.proofs.is_response.Goals as goal
-
-pub returns-then-s-gt-MOST_TOKENS : goal.returns-then-s-gt-MOST_TOKENS
-returns-then-s-gt-MOST_TOKENS c = too_long _ c.if-s-gt-MOST_TOKENS.true
-
-pub loop-i-init : goal.loop-i-init
-loop-i-init c = (search rules, search rules, ap (accepts _) c.at-p.ensures)
-
-pub loop-i-preserved : goal.loop-i-preserved
-loop-i-preserved c = (
-  search rules,
-  search rules,
-  ap (accepts _) c.step-p.ensures ∙ sym (accepts-more _ c.loop-i.i c.loop-i.p c.loop-i-test.true) ∙ c.loop-i.invariant.2,
-)
 
 pub returns : goal.returns
 returns c =
-    tells _ _ c.loop-i.invariant.1
-    (c.finished.ensures ∙ sym (accepts_end _ c.loop-i.i c.loop-i.p c.loop-i-test.false) ∙ c.loop-i.invariant.2)
+    tells _ _ c.if-s-gt-MOST_TOKENS.false
+    (ends c.try_fold.result _ (search rules)
+    ∙ sym (accepts-try_fold _ _ _ _ (λ p x r q k. search (rules, tests)) _ _ _ _ _ (YieldsList-from_slice c.args.s.now cc) c.try_fold.ensures.ran))

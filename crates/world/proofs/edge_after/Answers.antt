@@ -1,5 +1,4 @@
 -- `world::edge_after` meets its contract: the node's chain is entered behind one of its edges. Assumes nothing.
-use native.Mathlib.Omega.{arith}
 use mathlib.Core.Path.{sym, ◌∙◌}
 use Rattle.tables.specs.Read.{cell}
 use Rattle.index.proofs.Chains.{next-on}
@@ -7,15 +6,11 @@ use Rattle.world.specs.World.{edge_from}
 use Rattle.world.proofs.Targets.{nodes_table, next-rows}
 use Rattle.world.proofs.edge_after.Goals as goal
 
-pub overflow_cast-n : goal.overflow_cast-n
-unfolding cell
-overflow_cast-n c = omega (arith, c.requires.edges_held.nodes.edges)
-
 pub row_along-requires : goal.row_along-requires
 unfolding cell
 row_along-requires c =
     let e = c.requires.edges_held in
-    record { table_held = nodes_table _ e.nodes; linked = e.links; query_held = c.requires.query_held; k_bound = c.requires.k_bound; on_chain = next-on _ _ _ _ e.links _ _ c.requires.e_bound c.requires.e_value _ c.next_row.ensures }
+    record { table_held = nodes_table _ e.nodes; linked = e.links; on_chain = next-on _ _ _ _ e.links _ _ c.requires.e_bound c.requires.e_value _ c.next_row.ensures }
 
 pub returns : goal.returns
 unfolding edge_from cell

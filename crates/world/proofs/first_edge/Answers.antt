@@ -1,20 +1,15 @@
 -- `world::first_edge` meets its contract: the edges are a table, entered at the head of the node's chain. Assumes nothing.
-use native.Mathlib.Omega.{arith}
 use Rattle.tables.specs.Read.{cell}
 use Rattle.index.proofs.Chains.{head-on}
 use Rattle.world.specs.World.{edge_from}
 use Rattle.world.proofs.Targets.{nodes_table, head_rows}
 use Rattle.world.proofs.first_edge.Goals as goal
 
-pub overflow_cast-n : goal.overflow_cast-n
-unfolding cell
-overflow_cast-n c = omega (arith, c.requires.edges_held.nodes.edges)
-
 pub row_along-requires : goal.row_along-requires
 unfolding cell
 row_along-requires c =
     let e = c.requires.edges_held in
-    record { table_held = nodes_table _ e.nodes; linked = e.links; query_held = c.requires.query_held; k_bound = c.requires.k_bound; on_chain = head-on _ _ _ _ e.links _ _ c.first_row.ensures }
+    record { table_held = nodes_table _ e.nodes; linked = e.links; on_chain = head-on _ _ _ _ e.links _ _ c.first_row.ensures }
 
 pub returns : goal.returns
 unfolding edge_from cell

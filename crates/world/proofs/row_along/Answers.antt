@@ -1,24 +1,11 @@
 use native.Mathlib.Omega.{arith}
-use mathlib.Core.Path.{refl}
 use Rattle.index.proofs.Chains.{next-on, next-less}
 use Rattle.world.proofs.Reading.{from_hit, from_on, from_end}
 use Rattle.world.proofs.row_along.Goals as goal
 
-pub loop-j-init : goal.loop-j-init
-loop-j-init c = (refl, c.requires.on_chain)
-
-pub matches-requires : goal.matches-requires
-matches-requires c =
-    record { table_held = c.requires.table_held; query_held = c.requires.query_held; k_bound = c.requires.k_bound; j_lt_n = c.loop-j-test.true }
-
 pub returns-then-matches : goal.returns-then-matches
 returns-then-matches c =
     from_hit _ _ _ _ _ _ _ c.loop-j.invariant.0 _ c.loop-j-test.true c.matches.ensures c.if-matches.true
-
-pub next_row-j-requires : goal.next_row-j-requires
-next_row-j-requires c =
-    let k = c.requires.linked in
-    record { at_in_bounds = omega (arith, k.long); at_bound = omega (arith, k.low); j_bound = omega (arith, k.keyed.few) }
 
 pub loop-j-smaller : goal.loop-j-smaller
 loop-j-smaller c =

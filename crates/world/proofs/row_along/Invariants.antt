@@ -7,7 +7,7 @@ use Rattle.world.specs.World.{asked_at, row_from}
 use Rattle.world.proofs.row_along.Given as goal
 
 abbrev pub invariant-loop-j : goal.invariant-loop-j
-invariant-loop-j l = (row_from l.a l.base l.n l.u (asked_at l.q l.k) l.i ≡ row_from l.a l.base l.n l.u (asked_at l.q l.k) l.j) × OnChain (node_at l.a l.base) l.n l.u l.j
+invariant-loop-j l = (row_from l.a l.base l.n l.u (asked_at l.q.area.now l.q.place) l.i ≡ row_from l.a l.base l.n l.u (asked_at l.q.area.now l.q.place) l.j) × OnChain (node_at l.a l.base) l.n l.u l.j
 
 abbrev pub decreases-loop-j : goal.decreases-loop-j
 decreases-loop-j l = l.n - l.j

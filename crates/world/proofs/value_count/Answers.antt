@@ -1,11 +1,9 @@
 -- `world::value_count` meets its contract. Assumes nothing.
-use Rattle.world.proofs.Reading.{values-none, values-some}
+use mathlib.Core.Path.{◌∙◌}
+use Rattle.world.proofs.Reading.{values-some}
 use Rattle.world.proofs.value_count.Goals as goal
-
-pub returns-then-all-front : goal.returns-then-all-front
-returns-then-all-front c =
-    values-none _ _ _ c.requires.properties_held c.requires.j_bound _ _ c.wide_at-all.ensures c.wide_at.ensures c.if-all-front.true
 
 pub returns : goal.returns
 returns c =
-    values-some _ _ _ c.requires.properties_held c.requires.j_bound _ _ c.wide_at-all.ensures c.wide_at.ensures
+    c.saturating_sub.ensures
+    ∙ values-some _ _ _ c.args.p.now.held c.args.p.now.inside _ _ c.wide_at-all.ensures c.wide_at.ensures

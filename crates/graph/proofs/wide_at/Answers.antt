@@ -1,8 +1,0 @@
--- `graph::wide_at` meets its contract. Assumes nothing.
-use borrow.Author.Rules.{rules}
-use Rattle.tables.specs.Read.{cell, wide_at}
-use Rattle.graph.proofs.wide_at.Goals as goal
-
-pub returns : goal.returns
-unfolding wide_at cell
-returns c = search rules

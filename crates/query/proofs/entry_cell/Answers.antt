@@ -1,8 +1,0 @@
--- `query::entry_cell` meets its contract. Assumes nothing.
-use borrow.Author.Rules.{rules}
-use Rattle.tables.specs.Read.{cell, wide_at}
-use Rattle.query.proofs.entry_cell.Goals as goal
-
-pub returns : goal.returns
-unfolding wide_at cell
-returns c = search rules

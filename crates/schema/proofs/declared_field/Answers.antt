@@ -1,8 +1,0 @@
--- `schema::declared_field` meets its contract. Assumes nothing.
-use borrow.Author.Rules.{rules}
-use Rattle.tables.specs.Read.{schema_at, cell}
-use Rattle.schema.proofs.declared_field.Goals as goal
-
-pub returns : goal.returns
-unfolding schema_at cell
-returns c = search rules

@@ -2,7 +2,7 @@
 // response, one token to a line. 01 has the form of both ('The sample unit'), and `data` and `stdout` have its sample.
 #![tactic(auto)]
 
-ghost use Rattle.std.specs.Prelude.{◌≡◌, Some};
+ghost use Rattle.std.specs.Prelude.{◌≡◌, ◌≤◌, Some, length};
 ghost use Rattle.answer.specs.Lines.{token_of, token_text, head_text};
 
 use programs::{
@@ -84,7 +84,9 @@ impl fmt::Display for Head {
 }
 
 // Reads the start of a file, as much as `buffer` holds, and gives what it read. A file that cannot be opened counts as empty.
-fn read_text<'a, R: Files>(rt: &R, path: &str, buffer: &'a mut [u8]) -> &'a [u8] {
+fn read_text<'a, R: Files>(rt: &R, path: &str, buffer: &'a mut [u8]) -> &'a [u8]
+    ensures { length result.now ≤ length buffer.old }
+{
     let length = match fs::open(rt, path) {
         Ok(mut file) => programs::read_full(&mut file, buffer),
         Err(_) => 0,

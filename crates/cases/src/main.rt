@@ -11,7 +11,7 @@
 // or 0; refusal number, place, size and visits.
 #![tactic(auto)]
 
-ghost use Rattle.std.specs.Prelude.{◌≡◌, ◌≤◌};
+ghost use Rattle.std.specs.Prelude.{◌≡◌, ◌≤◌, length};
 ghost use Rattle.cases.specs.Call.{call_of};
 
 use programs::{
@@ -116,7 +116,9 @@ impl fmt::Display for Areas<'_> {
 }
 
 // How many numbers of an area are not zero.
-fn count_nonzero<T: Copy + Into<u64>>(area: &[T]) -> usize {
+fn count_nonzero<T: Copy + Into<u64>>(area: &[T]) -> usize
+    ensures { result ≤ length area.now }
+{
     area.iter().filter(|number| (**number).into() != 0).count()
 }
 
@@ -154,26 +156,33 @@ fn read_number(input: &mut impl Read) -> u32 {
 
 // The number, or `most` where that is less.
 fn capped(number: u32, most: usize) -> usize
-    ensures { result ≤ most }
+    ensures upper_bound { result ≤ most }
+    ensures upper_bound_2 { result ≤ number }
 {
     most.min(number as usize)
 }
 
 // Reads how much of a buffer the case has, and gives that much of it.
-fn read_part<'a, T>(input: &mut impl Read, buffer: &'a mut [T]) -> &'a mut [T] {
+fn read_part<'a, T>(input: &mut impl Read, buffer: &'a mut [T]) -> &'a mut [T]
+    ensures { length result.now ≤ length buffer.old }
+{
     let length = capped(read_number(input), buffer.len());
     &mut buffer[..length]
 }
 
 // Reads a text, behind its length. What the input no longer has of it stays as it is.
-fn read_text<'a>(input: &mut impl Read, buffer: &'a mut [u8]) -> &'a [u8] {
+fn read_text<'a>(input: &mut impl Read, buffer: &'a mut [u8]) -> &'a [u8]
+    ensures { length result.now ≤ length buffer.old }
+{
     let text = read_part(input, buffer);
     programs::read_full(input, text);
     text
 }
 
 // Reads how many tokens a sequence has, and the tokens, of which no more are kept than there is room for.
-fn read_tokens<'a>(input: &mut impl Read, buffer: &'a mut [u32]) -> &'a [u32] {
+fn read_tokens<'a>(input: &mut impl Read, buffer: &'a mut [u32]) -> &'a [u32]
+    ensures { length result.now ≤ length buffer.old }
+{
     let count = read_number(input);
     let kept = capped(count, buffer.len());
     for token in &mut buffer[..kept] {
@@ -228,7 +237,7 @@ fn run_on_texts(rt: &impl Print, input: &mut impl Read, wanted: Wanted) -> io::R
         buffer: read_part(input, &mut buffer),
     };
     let outcome = Fields(call_on_texts(input, wanted, room, &mut areas));
-    println!(rt; "{outcome}\t{areas}")
+    println!(rt; "\t{outcome}\t{areas}")
 }
 
 // Reads two sequences, judges them, and writes the line but for the case's number. Of a sequence that is longer than any response one
@@ -241,7 +250,7 @@ fn run_judging(rt: &impl Print, input: &mut impl Read) -> io::Result<()> {
     let reply = shorten::judge(full, shortened);
     let yes = reply.yes;
     let outcome = Fields(reply.outcome);
-    println!(rt; "{yes}\t{outcome}")
+    println!(rt; "\t{yes}\t{outcome}")
 }
 
 // Runs a case.
@@ -256,7 +265,7 @@ fn main(rt: HostRuntime) -> io::Result<()> {
     let mut input = BufReader::new(rt.alloc(), rt.reader())?;
     let count = read_number(&mut input);
     for case in 1..=count {
-        print!(rt; "{case}\t")?;
+        print!(rt; "{case}")?;
         run_case(&rt, &mut input)?;
     }
     Ok(())

@@ -149,12 +149,14 @@ fn line_fault(kind: TextKind, r: &Row) -> Option<u32>
     )
 }
 
-// The first line that breaks the text form, with the field at fault.
+// The first line that breaks the text form, with the field at fault. The text is told by its kind, or by the number of its first check: any
+// number will do, and one that is no text's is taken for the query's.
 #[tactic(auto, using(crate::proofs::Breaking::broken_laws))]
-pub fn first_broken(kind: TextKind, s: &[u8]) -> Option<Spot>
+pub fn first_broken<K: Into<TextKind>>(which: K, s: &[u8]) -> Option<Spot>
     requires { length s.now ≤ 65535 }
-    ensures { result ≡ first_line (breaks (forms_of kind)) (lines s.now) }
+    ensures { (kind : TextKind) × K.converts which kind × (result ≡ first_line (breaks (forms_of kind)) (lines s.now)) }
 {
+    let kind: TextKind = which.into();
     let mut at: usize = 0;
     let mut line: u32 = 1;
     // the reader says where the next line starts: nothing is counted

@@ -1,3 +1,4 @@
+pub mod Numbered
 pub mod Cells
 pub mod Arguments
 pub mod Children

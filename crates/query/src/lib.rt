@@ -235,10 +235,12 @@ fn put_below(contexts: &mut [TypeNo], d: usize, t: TypeNo)
     contexts[d + 1..].fill(t);
 }
 
-// The first entry that offends against a check, by its line.
-pub fn first_entry(check: EntryCheck, a: &SchemaTables, q: &QueryTable) -> Option<Spot>
-    ensures { result ≡ first_line (check_for check (stated a.now)) (entries_at q.now.area.now) }
+// The first entry that offends against a check, by its line. The check is told by its name or by its number: any number will do, and one that
+// is no check's is taken for 34.
+pub fn first_entry<K: Into<EntryCheck>>(which: K, a: &SchemaTables, q: &QueryTable) -> Option<Spot>
+    ensures { (check : EntryCheck) × K.converts which check × (result ≡ first_line (check_for check (stated a.now)) (entries_at q.now.area.now)) }
 {
+    let check: EntryCheck = which.into();
     let mut contexts = [a.query_type(); 17];
     let mut deepest: u32 = 0;
     for k in 0..q.len() {

@@ -1,4 +1,5 @@
 pub mod Bools
+pub mod Told
 pub mod Clean
 pub mod Places
 pub mod Parting

@@ -1,4 +1,5 @@
 pub mod Laid
+pub mod Belonging
 pub mod Those
 pub mod Cells
 pub mod Stores

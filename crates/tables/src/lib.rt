@@ -75,12 +75,14 @@ fn is_type(letter: u8) -> bool
     matches!(letter, b'S' | b'O' | b'I' | b'U')
 }
 
-// Whether a row with this letter belongs to table k.
+// Whether a row with this letter belongs to table k. The table is told by its name or by its number: any number will do, and one that is no
+// table's is taken for the query's entries.
 #[tactic(auto, unfolding(crate::specs::Layout::belongs, crate::specs::Fill::lettered))]
-pub fn belongs_to(k: Table, letter: u8) -> bool
-    ensures { result ≡ belongs (table_number k) (lettered letter) }
+pub fn belongs_to<K: Into<Table>>(k: K, letter: u8) -> bool
+    ensures { (table : Table) × K.converts k table × (result ≡ belongs (table_number table) (lettered letter)) }
 {
-    match k {
+    let table: Table = k.into();
+    match table {
         Table::Types => is_type(letter),
         Table::Fields => letter == b'F',
         Table::Args => letter == b'A',

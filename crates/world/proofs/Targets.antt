@@ -25,7 +25,7 @@ use Rattle.index.specs.Index.{led_to, node_at, own_from, Linked}
 use Rattle.index.proofs.Firsts.{first_past, first_passes}
 use Rattle.index.proofs.Links.{own_skip}
 use Rattle.index.proofs.Chains.{first-own, next-own}
-use Rattle.graph.specs.Held.{NodesHeld}
+use Rattle.graph.specs.Held.{NodesHeld, PropertiesHeld}
 use Rattle.graph.specs.Faults.{nodes_at}
 use Rattle.world.specs.World.{world_at, EdgesHeld, TableHeld, rows_from, row_from, edge_from, targets_from, first_of, lookup_at, found_by, shape_at, holds_at}
 
@@ -33,6 +33,9 @@ use Rattle.world.specs.World.{world_at, EdgesHeld, TableHeld, rows_from, row_fro
 
 pub nodes_table : (g : List ℕ) → NodesHeld g → TableHeld g 1544 (cell g 1)
 nodes_table g h = record { long = omega (arith, h.long, h.edges); low = omega arith; few = h.edges; pairs = h.pairs }
+
+pub properties-table : (p v : List ℕ) → PropertiesHeld p v → TableHeld p 8 (cell p 0)
+properties-table p v h = record { long = omega (arith, h.long, h.properties); low = omega arith; few = h.properties; pairs = h.pairs }
 
 -- ---- the numbers from j on that pass a test, and the first of them: n where there is none
 

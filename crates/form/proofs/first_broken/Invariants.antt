@@ -6,7 +6,7 @@ use Rattle.form.proofs.Breaking.{BrokenLeft}
 use Rattle.form.proofs.first_broken.Given as goal
 
 abbrev pub invariant-loop-at : goal.invariant-loop-at
-invariant-loop-at l = record { left : BrokenLeft l.kind l.s l.at l.line; inside : l.at ≤ length l.s; numbered : l.line ≤ l.at + 1 }
+invariant-loop-at g l = record { left : BrokenLeft l.kind l.s l.at l.line; inside : l.at ≤ length l.s; numbered : l.line ≤ l.at + 1 }
 
 abbrev pub decreases-loop-at : goal.decreases-loop-at
-decreases-loop-at l = length l.s - l.at
+decreases-loop-at g l = length l.s - l.at

@@ -6,4 +6,4 @@ use Rattle.query.proofs.Lines.{Reached}
 use Rattle.query.proofs.first_entry.Given as goal
 
 abbrev pub invariant-loop-k : goal.invariant-loop-k
-invariant-loop-k l = Reached l.check l.a.area.now l.q.area.now l.k l.deepest l.contexts × (l.k ≤ cell l.q.area.now 0)
+invariant-loop-k g l = Reached l.check l.a.area.now l.q.area.now l.k l.deepest l.contexts × (l.k ≤ cell l.q.area.now 0)

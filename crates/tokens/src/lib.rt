@@ -170,7 +170,12 @@ pub fn is_response(s: &[u32]) -> bool
     if s.len() > MOST_TOKENS {
         return false;
     }
-    s.iter()
-        .try_fold(State::START, |state, token| state.step(*token))
-        .is_some_and(State::finished)
+    let mut state = State::START;
+    for token in s {
+        let Some(next) = state.step(*token) else {
+            return false;
+        };
+        state = next;
+    }
+    state.finished()
 }

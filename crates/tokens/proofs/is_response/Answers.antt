@@ -1,11 +1,26 @@
--- `tokens::is_response` meets its contract: what the run over the tokens and its end say. Assumes nothing.
-use Rattle.std.proofs.Common.{rules, tests, sym, ◌∙◌}
-use Rattle.std.proofs.lemmas.Iterator.{YieldsList-from_slice}
-use Rattle.tokens.proofs.Checked.{tells, ends, accepts-try_fold}
+-- `tokens::is_response` meets its contract: what one token leads to, and the end. Assumes nothing.
+use mathlib.Core.Path.{sym, ap, ◌∙◌}
+use borrow.Author.Rules.{rules}
+use Rattle.tokens.specs.Check.{accepts}
+use Rattle.tokens.proofs.Checked.{tells, accepts-more, accepts_end, accepts_nowhere}
 use Rattle.tokens.proofs.is_response.Goals as goal
+
+pub returns-in_default : goal.returns-in_default
+returns-in_default c =
+    let run = c.loop-token in
+    tells _ _ run.invariant.1
+    (sym (accepts-more _ run.token-index run.state c.loop-token-test.true ∙ ap (accepts _) (sym c.step.ensures ∙ c.in_default.is) ∙ accepts_nowhere _)
+    ∙ run.invariant.2)
+
+pub loop-token-preserved : goal.loop-token-preserved
+loop-token-preserved c =
+    let run = c.loop-token in (
+      search rules,
+      search rules,
+      ap (accepts _) (sym c.in-Some.is ∙ c.step.ensures) ∙ sym (accepts-more _ run.token-index run.state c.loop-token-test.true) ∙ run.invariant.2,
+    )
 
 pub returns : goal.returns
 returns c =
-    tells _ _ c.if-s-gt-MOST_TOKENS.false
-    (ends c.try_fold.result _ (search rules)
-    ∙ sym (accepts-try_fold _ _ _ _ (λ p x r q k. search (rules, tests)) _ _ _ _ _ (YieldsList-from_slice c.args.s.now cc) c.try_fold.ensures.ran))
+    let run = c.loop-token in
+    tells _ _ run.invariant.1 (c.finished.ensures ∙ sym (accepts_end _ run.token-index run.state c.loop-token-test.false) ∙ run.invariant.2)

@@ -9,7 +9,8 @@ folder all of a crate's stand in its must-fail/, and `rt must-fail` tries each b
 refuses only because a proof file names what the edit took away does not fit.
 
 One line for each edit: crate, function, edit, and what is refused. Then, loudly, the edits that are not refused or do not fit, and
-the public functions that have less than two. --logs keeps what the prover said. --write puts the crates' tables into
+the public functions that have less than two: a function is told by its file and its name, and a method that calls a function of its
+name in another file has two of its own. --logs keeps what the prover said. --write puts the crates' tables into
 docs/WRONG_ANSWERS.md. The exit is 0 where each edit is refused at a fact and each public function has two.
 """
 
@@ -25,12 +26,12 @@ TABLE = os.path.join(ROOT, "docs", "WRONG_ANSWERS.md")
 HEADING = "## The table"
 FUNCTION = re.compile(r"^(\s*)(?:(pub )(extern \"C\" )?)?fn (\w+)")
 CONTRACT = re.compile(r"≡|ensures|requires")
-CALL = re.compile(r"(?<![\w:])(?:self\.|\w+\.|\w+::)?(\w+)\(")
+CALL = re.compile(r"(?<![\w:])(?:self\.|\w+\.|(\w+)::)?(\w+)\(")
 # what `rt must-fail` says of an edit, and where in that stands what the prover refused
 TOLD = re.compile(r"^rt: must-fail (\w+)/(\S+)\.edit: (.*)$")
 REFUSED = re.compile(r"^refused, as it must be(?:: (.*))?$")
 AT_FACT = re.compile(r"error: `([^`]+)`|\(`([^`]+)`\)")
-PROOF = re.compile(r"proofs/(?:\w+/)*(\+?\w+)/(?:Answers|Invariants)\.antt")
+PROOF = re.compile(r"proofs/(?:(\w+)/(?:\w+/)*)?(\+?\w+)/(?:Answers|Invariants)\.antt")
 AT_LINE = re.compile(r"src/(\S+?):(\d+):")
 
 
@@ -61,12 +62,11 @@ class Edit:
 
 
 class Source:
-    """The functions of a crate: which are public, which line is in which, which calls which."""
+    """The functions of a crate, by file and name: which are public, which line is in which, which calls which."""
 
     def __init__(self, crate):
         self.public = []
         self.bodies = {}
-        self.files = {}
         folder = self.folder = os.path.join(ROOT, "crates", crate, "src")
         lib = open(os.path.join(folder, "lib.rt"), encoding="utf-8").read()
         self.open = {"lib.rt"} | {f"{name}.rt" for name in re.findall(r"^pub mod (\w+);", lib, re.M)}
@@ -75,34 +75,43 @@ class Source:
 
     def read(self, folder, file):
         """The functions of a file. Public are those of lib.rt and of its public modules, and those that have a C name."""
-        name, end = "", ""
+        function, end = None, ""
         for line in open(os.path.join(folder, file), encoding="utf-8").read().split("\n"):
             found = FUNCTION.match(line)
             if found:
-                name, end = found.group(4), found.group(1) + "}"
-                self.bodies[name] = ""
-                self.files[name] = f"src/{file}"
+                function, end = (f"src/{file}", found.group(4)), found.group(1) + "}"
+                self.bodies.setdefault(function, "")
                 if found.group(3) or (found.group(2) and file in self.open):
-                    self.public.append(name)
-            if name:
-                self.bodies[name] += line + "\n"
+                    self.public.append(function)
+            if function:
+                self.bodies[function] += line + "\n"
             if line == end:
-                name = ""
+                function = None
+
+    def named(self, name):
+        """The functions of a name, one for each file that has one."""
+        return [function for function in self.bodies if function[1] == name]
 
     def function_of(self, file, old):
-        """The function in which a text of a file stands, '' where it stands outside of all."""
-        return next((name for name, body in self.bodies.items() if self.files[name] == file and old in body), "")
+        """The function in which a text of a file stands, None where it stands outside of all."""
+        return next((function for function, body in self.bodies.items() if function[0] == file and old in body), None)
 
     def at_line(self, file, number):
         """The function that a line of a file begins, or stands in."""
         text = open(os.path.join(self.folder, os.path.basename(file)), encoding="utf-8").read().split("\n")
         before = [FUNCTION.match(line) for line in text[:number]]
-        found = [one.group(4) for one in before if one]
+        found = [(file, one.group(4)) for one in before if one]
         return found[-1:]
 
-    def public_for(self, name):
+    def called_by(self, caller):
+        """The functions that one calls: of several that have the name the one of the module that is named, or of its own file."""
+        for module, name in CALL.findall(self.bodies[caller]):
+            file = {"": caller[0], "super": "src/lib.rt"}.get(module, f"src/{module}.rt")
+            yield from [(file, name)] if (file, name) in self.bodies else self.named(name)
+
+    def public_for(self, function):
         """The public functions that answer through a function: itself, or those that call it."""
-        seen, todo, found = set(), [name], []
+        seen, todo, found = set(), [function], []
         while todo:
             one = todo.pop(0)
             if one in seen:
@@ -111,7 +120,7 @@ class Source:
             if one in self.public:
                 found.append(one)
             else:
-                todo += [caller for caller, body in self.bodies.items() if one in CALL.findall(body) and caller != one]
+                todo += [caller for caller in self.bodies if one in self.called_by(caller) and caller != one]
         return found
 
 
@@ -128,13 +137,14 @@ def edits_of(crate):
 
 def place(edit, source):
     """Finds the functions that an edit changes (none where it changes something else), and those whose answer it is."""
-    names = ["" if CONTRACT.search(old + new) else source.function_of(file, old) for file, old, new in edit.pairs]
-    edit.places = sorted(set(names)) if all(names) else []
-    first = edit.name.split(".")[0]
-    if first in source.bodies:
-        edit.functions = [first]
+    found = [None if CONTRACT.search(old + new) else source.function_of(file, old) for file, old, new in edit.pairs]
+    edit.places = sorted(set(found)) if all(found) else []
+    named = source.named(edit.name.split(".")[0])
+    if named:
+        # of several that have the name the one of a file that is edited
+        edit.functions = ([one for one in named if one[0] in {file for file, _, _ in edit.pairs}] or named)[:1]
     else:
-        edit.functions = sorted({public for name in edit.places for public in source.public_for(name)})
+        edit.functions = sorted({public for one in edit.places for public in source.public_for(one)})
 
 
 def verdict_of(told):
@@ -151,10 +161,11 @@ def verdict_of(told):
 def refused_in(told, source):
     """The function whose proof the prover refused: by its folder, in that of a cycle of calls by the goal's first word, or by its line."""
     part, line, fact = PROOF.search(told), AT_LINE.search(told), AT_FACT.search(told)
-    if part and part.group(1).startswith("+") and fact:
-        return [name for name in source.bodies if (fact.group(1) or "").startswith(name + "-")]
+    if part and part.group(2).startswith("+") and fact:
+        return [one for one in source.bodies if (fact.group(1) or "").startswith(one[1] + "-")]
     if part:
-        return [name for name in source.bodies if name == part.group(1)]
+        named = source.named(part.group(2))
+        return [one for one in named if one[0] == f"src/{part.group(1) or 'lib'}.rt"] or named[:1]
     if line:
         return source.at_line(f"src/{line.group(1)}", int(line.group(2)))
     return []
@@ -192,8 +203,8 @@ def try_crate(crate, only, logs):
         if not edit.functions:
             refused = refused_in(told.get(edit.name, ""), source)
             edit.functions = sorted({public for name in refused for public in source.public_for(name)}) or refused
-        print(f"{crate} | {', '.join(edit.functions)} | {edit.name} | {edit.verdict}", flush=True)
-    few = [name for name in source.public if sum(name in edit.functions for edit in edits) < 2]
+        print(f"{crate} | {', '.join(name for _, name in edit.functions)} | {edit.name} | {edit.verdict}", flush=True)
+    few = [function for function in source.public if sum(function in edit.functions for edit in edits) < 2]
     return edits, [] if only else few
 
 
@@ -201,8 +212,8 @@ def section(crate, edits):
     """The table of a crate: its public functions in their order, each with its wrong answers."""
     lines = [f"### {crate}", "", "| function | wrong answer | refused at |", "|---|---|---|"]
     order = Source(crate).public
-    for edit in sorted(edits, key=lambda edit: [order.index(name) for name in edit.functions if name in order]):
-        names = ", ".join(f"`{name}`" for name in edit.functions)
+    for edit in sorted(edits, key=lambda edit: [order.index(function) for function in edit.functions if function in order]):
+        names = ", ".join(f"`{name}`" for _, name in edit.functions)
         lines.append(f"| {names} | {edit.comment}{' (gate)' if edit.gated else ''} | {edit.verdict} |")
     return "\n".join(lines) + "\n"
 
@@ -245,7 +256,7 @@ def main():
     for crate, only in asked.items():
         tried[crate], few = try_crate(crate, only, logs)
         wrong += [f"{crate}/{e.name}: {e.verdict}" for e in tried[crate] if re.match("NOT REFUSED|DOES NOT FIT", e.verdict)]
-        wrong += [f"{crate}::{name}: LESS THAN TWO WRONG ANSWERS" for name in few]
+        wrong += [f"{crate}::{name} ({file}): LESS THAN TWO WRONG ANSWERS" for file, name in few]
     for line in wrong:
         print(line)
     if "--write" in words and not any(asked.values()):

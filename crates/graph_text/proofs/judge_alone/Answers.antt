@@ -9,7 +9,7 @@ use Rattle.graph_text.proofs.judge_alone.Goals as goal
 
 pub judge_rows-requires-clause-index_ready : goal.judge_rows-requires-clause-index_ready
 unfolding indexed
-judge_rows-requires-clause-index_ready c = not-indexed 22 _ _ _ refl
+judge_rows-requires-clause-index_ready c = not-indexed _ _ _ _ refl
 
 pub returns-in_err-judge_rows : goal.returns-in_err-judge_rows
 returns-in_err-judge_rows c =
@@ -19,7 +19,7 @@ returns-in_err-judge_rows c =
 
 pub judge_rows-requires-2-clause-index_ready : goal.judge_rows-requires-2-clause-index_ready
 unfolding indexed
-judge_rows-requires-2-clause-index_ready c = not-indexed 23 _ _ _ refl
+judge_rows-requires-2-clause-index_ready c = not-indexed _ _ _ _ refl
 
 pub returns-in_err-judge_rows-2 : goal.returns-in_err-judge_rows-2
 returns-in_err-judge_rows-2 c =
@@ -31,7 +31,7 @@ returns-in_err-judge_rows-2 c =
 
 pub judge_rows-requires-3-clause-index_ready : goal.judge_rows-requires-3-clause-index_ready
 unfolding indexed
-judge_rows-requires-3-clause-index_ready c = not-indexed 24 _ _ _ refl
+judge_rows-requires-3-clause-index_ready c = not-indexed _ _ _ _ refl
 
 pub returns : goal.returns
 returns c =
